@@ -1,0 +1,37 @@
+-- What a call answers: its values, or a refusal by document 01's number and a place.
+-- Assumes nothing.
+use mathlib.Core.Bool.{Bool, true, false}
+use mathlib.Core.List.{List}
+use Prim.Native.Nat.{ℕ}
+
+pub data Answer (A : Type 0) : Type 0 where
+  gives : A → Answer A
+  refused : ℕ → ℕ → Answer A
+
+-- the answer of a check: it passes, or refuses
+abbrev pub Verdict : Type 0
+Verdict = Answer (Unit {0})
+
+abbrev pub pass : Verdict
+pass = gives tt
+
+-- one check after the other: the first refusal is the answer
+infixr 40 _▷_
+abbrev pub _▷_ : {A : Type 0} → Verdict → Answer A → Answer A
+_▷_ (gives u) answer = answer
+_▷_ (refused number place) answer = refused number place
+
+-- refused with this number and place if the test holds
+abbrev pub guard : Bool → ℕ → ℕ → Verdict
+guard true number place = refused number place
+guard false number place = pass
+
+-- what an answer says apart from its values
+abbrev pub verdict : {A : Type 0} → Answer A → Verdict
+verdict (gives value) = pass
+verdict (refused number place) = refused number place
+
+-- a call that writes: its answer, and what is lent as it is after the call; a refusal leaves that as it was before
+abbrev pub writes : {A : Type 0} → Verdict → List ℕ → A → List ℕ → Answer A × List ℕ
+writes (gives u) before value after = (gives value, after)
+writes (refused number place) before value after = (refused number place, before)

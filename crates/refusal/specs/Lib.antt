@@ -1,0 +1,4 @@
+-- What a call answers, and the numbers of the refusals.
+pub mod Answer
+pub mod Number
+pub mod Meaning

@@ -1,0 +1,41 @@
+-- Writing: the octets of a packet, a message in any packing, and the fewest-packet form.
+-- Assumes nothing.
+use mathlib.Core.Bool.{cond}
+use mathlib.Core.List.{List, _∷_, _++_}
+use Prim.Native.Nat.{ℕ, suc, _+_, _-_, _*_, _/_}
+use lib.Dec.{eqb}
+use lib.ListN.{length, take, drop, replicate}
+use Rattle.ump.specs.Word.{wordsOf}
+use Rattle.ump.specs.Packet.{Shape, joined}
+
+-- the status of packet p of n: complete; start, continue, end
+unfoldable pub statusFor : ℕ → ℕ → ℕ
+statusFor n p = cond (eqb n 1) 0 (cond (eqb p 0) 1 (cond (eqb (suc p) n) 3 2))
+
+-- the octets of a packet: type and group, status and count, stream id, payload, and zeros
+unfoldable pub frame : Shape → ℕ → ℕ → List ℕ → List ℕ → List ℕ
+frame shape status group id bytes =
+    (shape .type * 16 + group)
+    ∷ (status * 16 + (length bytes + shape .bias))
+    ∷ (id ++ (bytes ++ replicate (shape .room - length bytes) 0))
+
+-- a packing in n packets: packet p carries the piece p, however the payload is spread
+unfoldable pub packsAt : Shape → ℕ → List ℕ → ℕ → (ℕ → List ℕ) → ℕ → List ℕ
+packsAt shape group id n piece p = wordsOf (frame shape (statusFor n p) group id (piece p))
+
+unfoldable pub packs : Shape → ℕ → List ℕ → ℕ → (ℕ → List ℕ) → List ℕ
+packs shape group id n piece = joined (packsAt shape group id n piece) n
+
+-- the packets of the fewest-packet form of n bytes: one if n is 0, else n over the room, rounded up
+unfoldable pub packetsFor : Shape → ℕ → ℕ
+packetsFor shape n = cond (eqb n 0) 1 ((n + (shape .room - 1)) / shape .room)
+
+abbrev pub wordsFor : Shape → ℕ → ℕ
+wordsFor shape n = shape .words * packetsFor shape n
+
+-- the fewest-packet form: every packet but the last is full
+abbrev pub chunk : Shape → List ℕ → ℕ → List ℕ
+chunk shape bytes p = take (shape .room) (drop (shape .room * p) bytes)
+
+unfoldable pub pack : Shape → ℕ → List ℕ → List ℕ → List ℕ
+pack shape group id bytes = packs shape group id (packetsFor shape (length bytes)) (chunk shape bytes)

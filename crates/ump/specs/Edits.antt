@@ -11,7 +11,7 @@ use Rattle.refusal.specs.Answer.{Answer, gives, refused, _▷_, guard, writes}
 use Rattle.ump.specs.Packet.{Shape, joined}
 use Rattle.ump.specs.Packing.{wordsFor}
 use Rattle.ump.specs.Check.{check, payloadOf}
-use Rattle.ump.specs.Splice.{Spliced, rewritten, splice}
+use Rattle.ump.specs.Splice.{spliced, Spliced, rewritten, splice}
 
 -- an edit is from, to and replacement length
 pub record Edit : Type 0 where
@@ -165,7 +165,15 @@ chase patches (i ∷ done) k = moveBoth (chase patches done i) (chase patches do
         moveEdit (record { from = d .from; to = d .to; length = lengthOf i }) (record { from = r .from; to = r .to; length = lengthOf k })
         (ltb i k)
 
--- the patches in the order given, those of `done` being done: the answer and the words after the last; a refusal ends it
+-- the payload after the patches in the order given, those of `done` being done
+unfoldable pub edited : List Patch → List ℕ → List ℕ → List ℕ → List ℕ
+edited patches done [] bytes = bytes
+edited patches done (i ∷ order) bytes =
+    edited patches (i ∷ done) order
+    (spliced bytes (moved patches done i (patchAt patches i .from)) (moved patches done i (patchAt patches i .to))
+    (patchAt patches i .bytes))
+
+-- the same on a message: the answer and the words after the last; a refusal ends it
 unfoldable pub run : Shape → List Patch → List ℕ → List ℕ → Answer Spliced → List ℕ → Answer Spliced × List ℕ
 run shape patches done [] answer words = (answer, words)
 run shape patches done (i ∷ order) (refused number place) words = (refused number place, words)

@@ -1,0 +1,122 @@
+-- The check passes exactly the valid messages. Assumes nothing.
+use mathlib.Core.Path.{_≡_, refl, sym, ap, _∙_}
+use mathlib.Core.Bool.{Bool, true, false, not, _&&_, _||_}
+use mathlib.Core.List.{List, [], _∷_}
+use Prim.Native.Nat.{ℕ, _+_, _*_, _/_, _%_, _≤_, _<_}
+use native.Mathlib.Nat.{mul-mod-right, mul-div-right, div-add-mod, add-zero, le-mul-of-pos-right, le-div-iff-mul-le}
+use native.Mathlib.Omega.{arith}
+use lib.Dec.{eqb, ltb}
+use borrow.Author.Tests.{ltb-false, le-ltb, eqb-true, eq-eqb, not-false}
+use lib.ListN.{length}
+use Rattle.refusal.specs.Answer.{Answer, gives, refused, Verdict, pass, _▷_, guard}
+use Rattle.refusal.proofs.Laws.{never-refused}
+use Rattle.ump.specs.Packet.{Shape, groupAt, countAt, idAt}
+use Rattle.ump.specs.Check.{first, sweep, statusNumber, same, badType, badStatus, badCount, badGroup, badId, checkPackets, check, Valid}
+use Rattle.ump.proofs.Sizes.{words-pos}
+use Rattle.ump.proofs.First.{first-none, first-before}
+
+-- ---- a sweep over the packets passes exactly if none is at fault
+
+pub sweep-pass : (s : Shape) (nr : ℕ → ℕ) (bad : ℕ → Bool) (n : ℕ) → ((p : ℕ) → p < n → bad p ≡ false) → sweep s nr bad n ≡ pass
+sweep-pass s nr bad n h = rw (first-none bad n h, le-ltb n n (omega arith))
+
+guard-pass : (b : Bool) (nr at : ℕ) → guard b nr at ≡ pass → b ≡ false
+guard-pass true nr at e = never-refused e
+guard-pass false nr at e = refl
+
+pub pass-sweep : (s : Shape) (nr : ℕ → ℕ) (bad : ℕ → Bool) (n : ℕ) → sweep s nr bad n ≡ pass → (p : ℕ) → p < n → bad p ≡ false
+pass-sweep s nr bad n e p h =
+    let k : n ≤ first bad n = ltb-false (first bad n) n (guard-pass _ _ _ e) in
+    first-before bad n p (omega arith)
+
+pub pass-both : (u v : Verdict) → u ▷ v ≡ pass → (u ≡ pass) × (v ≡ pass)
+pass-both (gives u) v e = (refl, e)
+pass-both (refused nr at) v e = never-refused e
+
+-- ---- the whole check
+
+same-refl : (xs : List ℕ) → same xs xs ≡ true
+same-refl [] = refl
+same-refl (x ∷ xs) = rw (eq-eqb x x refl) (same-refl xs)
+
+and-left : (a b : Bool) → (a && b) ≡ true → a ≡ true
+and-left true b e = refl
+and-left false b e = e
+
+and-right : (a b : Bool) → (a && b) ≡ true → b ≡ true
+and-right true b e = e
+and-right false b e = cc
+
+or-left : (a b : Bool) → (a || b) ≡ false → a ≡ false
+or-left true b e = e
+or-left false b e = refl
+
+or-right : (a b : Bool) → (a || b) ≡ false → b ≡ false
+or-right true b e = cc
+or-right false b e = e
+
+same-eq : (xs ys : List ℕ) → same xs ys ≡ true → xs ≡ ys
+same-eq [] [] e = refl
+same-eq [] (y ∷ ys) e = cc
+same-eq (x ∷ xs) [] e = cc
+same-eq (x ∷ xs) (y ∷ ys) e =
+    rw (eqb-true x y (and-left (eqb x y) (same xs ys) e), same-eq xs ys (and-right (eqb x y) (same xs ys) e))
+
+guard-no : (b : Bool) (nr at : ℕ) → b ≡ false → guard b nr at ≡ pass
+guard-no b nr at e = rw e
+
+pub both-pass : {u v : Verdict} → u ≡ pass → v ≡ pass → u ▷ v ≡ pass
+both-pass e f = rw (e, f)
+
+pub valid-passes : (s : Shape) (ws : List ℕ) (len : ℕ) → Valid s ws len → check s ws len ≡ pass
+unfolding check checkPackets badType badStatus badCount badGroup badId
+valid-passes s ws len v =
+    let n = v .packets in
+    let q : len / s .words ≡ n = rw (v .whole) (mul-div-right n (words-pos s)) in
+    let r : len % s .words ≡ 0 = rw (v .whole) (mul-mod-right (s .words) n) in
+    let l : s .words ≤ len = rw (v .whole) (le-mul-of-pos-right (s .words) (v .some-packet)) in
+    both-pass (guard-no _ 1 0 (le-ltb 16384 (length ws) (v .short-enough)))
+    (both-pass (guard-no _ 2 0 (le-ltb (length ws) len (v .inside)))
+    (both-pass (guard-no _ 3 0 (le-ltb len (s .words) l))
+    (both-pass (guard-no _ 4 0 (ap not (eq-eqb (len % s .words) 0 r)))
+    (rw q
+    (both-pass (sweep-pass s (λ p. 5) (badType s ws) n (λ p h. ap not (eq-eqb _ _ (v .types p h))))
+    (both-pass (sweep-pass s (statusNumber n) (badStatus s ws n) n (λ p h. ap not (eq-eqb _ _ (v .statuses p h))))
+    (both-pass (sweep-pass s (λ p. 10) (badCount s ws) n (λ p h. rw (le-ltb _ _ (v .counts p h .0), le-ltb _ _ (v .counts p h .1))))
+    (both-pass (sweep-pass s (λ p. 11) (badGroup s ws) n (λ p h. ap not (eq-eqb _ _ (v .groups p h))))
+    (sweep-pass s (λ p. 12) (badId s ws) n (λ p h. rw (v .one-id p h) (ap not (same-refl (idAt s ws 0)))))))))))))
+
+pub passes-valid : (s : Shape) (ws : List ℕ) (len : ℕ) → check s ws len ≡ pass → Valid s ws len
+unfolding check checkPackets badType badStatus badCount badGroup badId
+passes-valid s ws len e =
+    let n = len / s .words in
+    let split : s .words * n + len % s .words ≡ len = div-add-mod len (s .words) in
+    let e1 = pass-both _ _ e in
+    let e2 = pass-both _ _ (e1 .1) in
+    let e3 = pass-both _ _ (e2 .1) in
+    let e4 = pass-both _ _ (e3 .1) in
+    let e5 = pass-both _ _ (e4 .1) in
+    let e6 = pass-both _ _ (e5 .1) in
+    let e10 = pass-both _ _ (e6 .1) in
+    let e11 = pass-both _ _ (e10 .1) in
+    let l : s .words ≤ len = ltb-false _ _ (guard-pass _ _ _ (e3 .0)) in
+    let r : len % s .words ≡ 0 = eqb-true _ _ (not-false _ (guard-pass _ _ _ (e4 .0))) in
+    record {
+      short-enough = ltb-false _ _ (guard-pass _ _ _ (e1 .0));
+      inside = ltb-false _ _ (guard-pass _ _ _ (e2 .0));
+      packets = n;
+      some-packet = div-pos (words-pos s) l;
+      whole = sym split ∙ rw (r, add-zero);
+      types = λ p h. eqb-true _ _ (not-false _ (pass-sweep s (λ p. 5) (badType s ws) n (e5 .0) p h));
+      statuses = λ p h. eqb-true _ _ (not-false _ (pass-sweep s (statusNumber n) (badStatus s ws n) n (e6 .0) p h));
+      counts = λ p h.
+          let b = pass-sweep s (λ p. 10) (badCount s ws) n (e10 .0) p h in
+          let lo = ltb (countAt s ws p) (s .bias) in
+          let hi = ltb (s .room + s .bias) (countAt s ws p) in
+          (ltb-false _ _ (or-left lo hi b), ltb-false _ _ (or-right lo hi b));
+      groups = λ p h. eqb-true _ _ (not-false _ (pass-sweep s (λ p. 11) (badGroup s ws) n (e11 .0) p h));
+      one-id = λ p h. same-eq _ _ (not-false _ (pass-sweep s (λ p. 12) (badId s ws) n (e11 .1) p h));
+    }
+  where
+    div-pos : {a b : ℕ} → 0 < a → a ≤ b → 0 < b / a
+    div-pos {a} {b} h k = le-div-iff-mul-le h .1 (omega arith)

@@ -1,0 +1,11 @@
+pub mod Words
+pub mod Joined
+pub mod Sizes
+pub mod First
+pub mod Packing
+pub mod Checks
+pub mod Message
+pub mod Replace
+pub mod Signed
+pub mod Splicing
+pub mod Moving

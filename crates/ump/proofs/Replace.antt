@@ -1,0 +1,357 @@
+-- Edits of a payload, done one at a time in any order, come to all ranges replaced at once. Assumes nothing.
+use mathlib.Core.Path.{_≡_, refl, sym, ap, ap₂, _∙_, subst}
+use mathlib.Core.Logic.{_≢_}
+use mathlib.Core.Bool.{Bool, true, false, not, cond, _||_}
+use mathlib.Core.List.{List, [], _∷_, _++_, append-assoc, append-nil}
+use Prim.Native.Nat.{ℕ, zero, suc, _+_, _-_, _*_, _≤_, _<_}
+use native.Mathlib.Nat.{add-zero, add-suc, le-refl, le-trans}
+use native.Mathlib.Omega.{arith}
+use lib.Dec.{eqb}
+use lib.ListN.{length, getD, take, drop, length-append, length-drop, take-append-drop}
+use lib.Seq.{slice, length-slice, take-take, take-at, drop-at}
+use Rattle.ump.specs.Packet.{joined}
+use Rattle.ump.specs.Splice.{spliced}
+use Rattle.ump.specs.Edits.{Patch, patchAt, endBefore, Apart, replaced, elem, total, added, removed, moved, allBytes, edited, Order}
+use Rattle.ump.proofs.Joined.{joined-cong, joined-around}
+use borrow.Author.Tests.{ne-eqb, eq-eqb, eqb-true}
+use Rattle.ump.proofs.First.{is-false, Side, under, over, side}
+
+pub take-slice : (f t : ℕ) (l : List ℕ) → f ≤ t → take f l ++ slice f t l ≡ take t l
+take-slice f t l h = rw (← (take-take f t l h)) (take-append-drop f (take t l))
+
+-- what edit i makes of its gap and its range, where ds are done
+abbrev pub cur : List ℕ → List Patch → List ℕ → ℕ → List ℕ
+cur p es ds i = cond (elem i ds) (patchAt es i .bytes) (slice (patchAt es i .from) (patchAt es i .to) p)
+
+abbrev pub gap : List ℕ → List Patch → ℕ → List ℕ
+gap p es i = slice (endBefore es i) (patchAt es i .from) p
+
+unfoldable pub piece : List ℕ → List Patch → List ℕ → ℕ → List ℕ
+piece p es ds i = gap p es i ++ cur p es ds i
+
+-- the payload where the edits ds are done
+unfoldable pub mixed : List ℕ → List Patch → List ℕ → List ℕ
+mixed p es ds = joined (piece p es ds) (length es) ++ drop (endBefore es (length es)) p
+
+pub mixed-all : (p : List ℕ) (es : List Patch) (ds : List ℕ) → ((i : ℕ) → i < length es → elem i ds ≡ true) → mixed p es ds ≡ replaced p es
+unfolding mixed piece replaced
+mixed-all p es ds h =
+    ap (λ (l : List ℕ). l ++ drop (endBefore es (length es)) p)
+    (joined-cong (piece p es ds) (λ i. gap p es i ++ patchAt es i .bytes) (length es) (λ i k. rw (h i k)))
+
+mixed-around : (p : List ℕ) (es : List Patch) (ds : List ℕ) (i : ℕ) → i < length es
+    → mixed p es ds
+    ≡ (joined (piece p es ds) i ++ gap p es i) ++ (cur p es ds i ++ (joined (λ k. piece p es ds (suc i + k)) (length es - suc i) ++ drop (endBefore es (length es)) p))
+unfolding mixed piece
+mixed-around p es ds i h = rw (joined-around (piece p es ds) (length es) i h) (simp append-assoc)
+
+-- one edit more is done: only its own piece changes
+pub elem-other : (i j : ℕ) (ds : List ℕ) → j ≢ i → elem j (i ∷ ds) ≡ elem j ds
+elem-other i j ds h = rw (ne-eqb j i h)
+
+pub elem-same : (i : ℕ) (ds : List ℕ) → elem i (i ∷ ds) ≡ true
+elem-same i ds = rw (eq-eqb i i refl)
+
+pub total-mono : (f g : ℕ → ℕ) (n : ℕ) → ((i : ℕ) → i < n → f i ≤ g i) → total f n ≤ total g n
+unfolding total
+total-mono f g zero h = omega arith
+total-mono f g (suc n) h = omega (arith, total-mono f g n (λ i k. h i (omega arith)), h n (omega arith))
+
+cond-le : (b : Bool) (n : ℕ) → cond b n 0 ≤ n
+cond-le true n = omega arith
+cond-le false n = omega arith
+
+module _ (p : List ℕ) (es : List Patch) (a : Apart es (length p)) where
+  -- the ends go up
+  end-le : (i k : ℕ) → i + k ≤ length es → endBefore es i ≤ endBefore es (i + k)
+  end-le i zero h = rw add-zero (le-refl (endBefore es i))
+  end-le i (suc k) h =
+      rw add-suc
+      (le-trans (end-le i k (omega arith)) (le-trans (a .after (i + k) (omega arith)) (a .forward (i + k) (omega arith))))
+
+  to-le : (i : ℕ) → i < length es → patchAt es i .to ≤ length p
+  to-le i h =
+      let e : suc i + (length es - suc i) ≡ length es = omega arith in
+      le-trans (subst (λ (k : ℕ). patchAt es i .to ≤ endBefore es k) e (end-le (suc i) (length es - suc i) (omega arith))) (a .inside)
+
+  none-done : (i : ℕ) → i ≤ length es → joined (piece p es []) i ≡ take (endBefore es i) p
+  unfolding joined piece
+  none-done zero h = refl
+  none-done (suc i) h =
+      rw (none-done i (omega arith), ← append-assoc, take-slice (endBefore es i) (patchAt es i .from) p (a .after i h))
+      (take-slice (patchAt es i .from) (patchAt es i .to) p (a .forward i h))
+
+  pub mixed-none : mixed p es [] ≡ p
+  unfolding mixed
+  mixed-none = rw (none-done (length es) (omega arith)) (take-append-drop (endBefore es (length es)) p)
+
+  -- how long the part before edit i has become: by what was put in less what was taken out
+  length-cur : (ds : List ℕ) (i : ℕ) → i < length es
+      → length (cur p es ds i) + cond (elem i ds) (patchAt es i .to - patchAt es i .from) 0
+      ≡ (patchAt es i .to - patchAt es i .from) + cond (elem i ds) (length (patchAt es i .bytes)) 0
+  length-cur ds i h = go (elem i ds)
+    where
+      go : (b : Bool)
+          → length (cond b (patchAt es i .bytes) (slice (patchAt es i .from) (patchAt es i .to) p)) + cond b (patchAt es i .to - patchAt es i .from) 0
+          ≡ (patchAt es i .to - patchAt es i .from) + cond b (length (patchAt es i .bytes)) 0
+      go true = omega arith
+      go false = omega (arith, length-slice (patchAt es i .from) (patchAt es i .to) p (to-le i h))
+
+  pub length-gap : (i : ℕ) → i < length es → length (gap p es i) ≡ patchAt es i .from - endBefore es i
+  length-gap i h = length-slice (endBefore es i) (patchAt es i .from) p (omega (arith, a .forward i h, to-le i h))
+
+  pub length-before : (ds : List ℕ) (i : ℕ) → i ≤ length es → length (joined (piece p es ds) i) + removed es ds i ≡ endBefore es i + added es ds i
+  unfolding joined piece total
+  length-before ds zero h = refl
+  length-before ds (suc i) h =
+      omega (
+        arith,
+        length-append (joined (piece p es ds) i) (gap p es i ++ cur p es ds i),
+        length-append (gap p es i) (cur p es ds i),
+        length-before ds i (omega arith),
+        length-gap i h,
+        length-cur ds i h,
+        a .after i h,
+        a .forward i h,
+      )
+
+  -- the size where ds are done: what was put in is added, what was taken out is gone
+  pub size-mixed : (ds : List ℕ) → length (mixed p es ds) + removed es ds (length es) ≡ length p + added es ds (length es)
+  unfolding mixed
+  size-mixed ds =
+      let m = length es in
+      omega (
+        arith,
+        length-append (joined (piece p es ds) m) (drop (endBefore es m) p),
+        length-drop (endBefore es m) p,
+        length-before ds m (omega arith),
+        a .inside,
+      )
+
+  -- never longer than the payload with all replacements beside it
+  pub length-mixed : (ds : List ℕ) → length (mixed p es ds) ≤ length p + allBytes es
+  length-mixed ds =
+      let m = length es in
+      omega (
+        arith,
+        size-mixed ds,
+        total-mono (λ j. cond (elem j ds) (length (patchAt es j .bytes)) 0) (λ j. length (patchAt es j .bytes)) m (λ i k. cond-le (elem i ds) _),
+      )
+
+  module _ (ds : List ℕ) (i : ℕ) (h : i < length es) (u : elem i ds ≡ false) where
+    abbrev J : List ℕ
+    J = joined (piece p es ds) i
+
+    abbrev R : List ℕ
+    R = joined (λ k. piece p es ds (suc i + k)) (length es - suc i) ++ drop (endBefore es (length es)) p
+
+    abbrev old : List ℕ
+    old = slice (patchAt es i .from) (patchAt es i .to) p
+
+    length-old : length old ≡ patchAt es i .to - patchAt es i .from
+    length-old = length-slice (patchAt es i .from) (patchAt es i .to) p (to-le i h)
+
+    -- the payload around the range of edit i, before it is done and after
+    around : mixed p es ds ≡ (J ++ gap p es i) ++ (old ++ R)
+    around = mixed-around p es ds i h ∙ ap (λ (b : Bool). (J ++ gap p es i) ++ (cond b (patchAt es i .bytes) old ++ R)) u
+
+    piece-other : (j : ℕ) → j ≢ i → piece p es (i ∷ ds) j ≡ piece p es ds j
+    unfolding piece
+    piece-other j n = ap (λ (b : Bool). gap p es j ++ cond b (patchAt es j .bytes) (slice (patchAt es j .from) (patchAt es j .to) p)) (elem-other i j ds n)
+
+    around-new : mixed p es (i ∷ ds) ≡ (J ++ gap p es i) ++ (patchAt es i .bytes ++ R)
+    around-new =
+        mixed-around p es (i ∷ ds) i h
+        ∙ rw (
+          elem-same i ds,
+          joined-cong (piece p es (i ∷ ds)) (piece p es ds) i (λ j l. piece-other j (omega arith)),
+          joined-cong (λ k. piece p es (i ∷ ds) (suc i + k)) (λ k. piece p es ds (suc i + k)) (length es - suc i) (λ k l. piece-other (suc i + k) (omega arith)),
+        )
+
+    at-from : length (J ++ gap p es i) ≡ moved es ds i (patchAt es i .from)
+    at-from =
+        omega (
+          arith,
+          length-append J (gap p es i),
+          length-before ds i (omega arith),
+          length-gap i h,
+          a .after i h,
+        )
+
+    at-to : length ((J ++ gap p es i) ++ old) ≡ moved es ds i (patchAt es i .to)
+    at-to =
+        omega (
+          arith,
+          length-append (J ++ gap p es i) old,
+          length-append J (gap p es i),
+          length-before ds i (omega arith),
+          length-gap i h,
+          length-old,
+          a .forward i h,
+          a .after i h,
+        )
+
+    -- nothing is cut off where the range is moved
+    pub range-whole : removed es ds i ≤ patchAt es i .from + added es ds i
+    range-whole = omega (arith, length-before ds i (omega arith), a .after i h)
+
+    pub range-forward : moved es ds i (patchAt es i .from) ≤ moved es ds i (patchAt es i .to)
+    range-forward = omega (arith, at-from, at-to, length-append (J ++ gap p es i) old)
+
+    pub range-inside : moved es ds i (patchAt es i .to) ≤ length (mixed p es ds)
+    range-inside =
+        rw (around, ← append-assoc) (omega (arith, at-to, length-append ((J ++ gap p es i) ++ old) R))
+
+    pub step : spliced (mixed p es ds) (moved es ds i (patchAt es i .from)) (moved es ds i (patchAt es i .to)) (patchAt es i .bytes) ≡ mixed p es (i ∷ ds)
+    step =
+        let h₁ : List ℕ = J ++ gap p es i in
+        let f : ℕ = moved es ds i (patchAt es i .from) in
+        let t : ℕ = moved es ds i (patchAt es i .to) in
+        let before : take f (mixed p es ds) ≡ h₁ = ap (take f) around ∙ take-at h₁ (old ++ R) f at-from in
+        let behind : drop t (mixed p es ds) ≡ R = ap (drop t) (around ∙ sym (append-assoc h₁ old R)) ∙ drop-at (h₁ ++ old) R t at-to in
+        ap₂ (λ (x y : List ℕ). x ++ (patchAt es i .bytes ++ y)) before behind ∙ sym around-new
+
+-- ---- an order of all the edits
+
+-- the edits that are done after is, where ds were done before
+abbrev pub after : List ℕ → List ℕ → List ℕ
+after ds [] = ds
+after ds (i ∷ is) = after (i ∷ ds) is
+
+or-swap : (a b c : Bool) → (a || (b || c)) ≡ ((b || a) || c)
+or-swap true true c = refl
+or-swap true false c = refl
+or-swap false true c = refl
+or-swap false false c = refl
+
+pub elem-after : (j : ℕ) (ds is : List ℕ) → elem j (after ds is) ≡ elem j is || elem j ds
+elem-after j ds [] = refl
+elem-after j ds (i ∷ is) = elem-after j (i ∷ ds) is ∙ or-swap (elem j is) (eqb j i) (elem j ds)
+
+-- one place more counts d more
+pub total-cong : (f g : ℕ → ℕ) (n : ℕ) → ((j : ℕ) → j < n → f j ≡ g j) → total f n ≡ total g n
+unfolding total
+total-cong f g zero o = refl
+total-cong f g (suc n) o = omega (arith, total-cong f g n (λ j k. o j (omega arith)), o n (omega arith))
+
+pub total-point : (f g : ℕ → ℕ) (d n i : ℕ) → i < n → f i ≡ g i + d → ((j : ℕ) → j < n → j ≢ i → f j ≡ g j) → total f n ≡ total g n + d
+unfolding total
+total-point f g d zero i h e o = absurd (omega arith)
+total-point f g d (suc n) i h e o = go (side i n) (λ k. total-point f g d n i k e (λ j l. o j (omega arith)))
+  where
+    go : Side i n → (i < n → total f n ≡ total g n + d) → total f n + f n ≡ total g n + g n + d
+    go (under k x) ih = omega (arith, ih k, o n (omega arith) (omega arith))
+    go (over k x) ih =
+        let q : i ≡ n = omega arith in
+        let e′ : f n ≡ g n + d = subst (λ (x : ℕ). f x ≡ g x + d) q e in
+        omega (arith, total-cong f g n (λ j l. o j (omega arith) (omega arith)))
+
+count : List ℕ → ℕ → ℕ
+count is j = cond (elem j is) 1 0
+
+count-le : (is : List ℕ) (j : ℕ) → count is j ≤ 1
+unfolding count
+count-le is j = cond-le (elem j is) 1
+
+pub total-zero : (f : ℕ → ℕ) (n : ℕ) → ((i : ℕ) → f i ≡ 0) → total f n ≡ 0
+unfolding total
+total-zero f zero h = refl
+total-zero f (suc n) h = omega (arith, total-zero f n h, h n)
+
+total-order : (m : ℕ) (is : List ℕ) → Order m is → total (count is) m ≡ length is
+unfolding count
+total-order m [] o = total-zero (count []) m (λ i. refl)
+total-order m (i ∷ is) o =
+    let c : elem i is ≡ false = is-false (elem i is) (o .1) in
+    omega (
+      arith,
+      total-point (count (i ∷ is)) (count is) 1 m i (o .0) (rw (elem-same i is, c)) (λ j h n. rw (elem-other i j is n)),
+      total-order m is (o .2),
+    )
+
+total-le : (f : ℕ → ℕ) (n : ℕ) → ((i : ℕ) → f i ≤ 1) → total f n ≤ n
+unfolding total
+total-le f zero h = omega arith
+total-le f (suc n) h = omega (arith, total-le f n h, h n)
+
+total-full : (f : ℕ → ℕ) (n : ℕ) → ((i : ℕ) → f i ≤ 1) → n ≤ total f n → (i : ℕ) → i < n → 0 < f i
+unfolding total
+total-full f zero h e i k = absurd (omega arith)
+total-full f (suc n) h e i k = go (side i n) (total-full f n h (omega (arith, h n)) i)
+  where
+    go : Side i n → (i < n → 0 < f i) → 0 < f i
+    go (under l x) ih = ih l
+    go (over l x) ih =
+        let q : n ≡ i = omega arith in
+        subst (λ (x : ℕ). 0 < f x) q (omega (arith, total-le f n h))
+
+-- m different numbers below m are all of them
+pub order-all : (m : ℕ) (is : List ℕ) → Order m is → length is ≡ m → (j : ℕ) → j < m → elem j is ≡ true
+unfolding count
+order-all m is o l j h = go (elem j is) (total-full (count is) m (count-le is) (omega (arith, total-order m is o)) j h)
+  where
+    go : (b : Bool) → 0 < cond b 1 0 → b ≡ true
+    go true k = refl
+    go false k = absurd (omega arith)
+
+-- ---- demand 3 on payloads
+
+or-right-true : (a b : Bool) → b ≡ true → (a || b) ≡ true
+or-right-true true b e = refl
+or-right-true false b e = e
+
+or-left-true : (a b : Bool) → a ≡ true → (a || b) ≡ true
+or-left-true true b e = refl
+or-left-true false b e = cc
+
+-- of an order that none of ds is in, none of i and ds is in what comes after i
+pub fresh : (i : ℕ) (is ds : List ℕ) → elem i is ≡ false → ((j : ℕ) → elem j (i ∷ is) ≡ true → elem j ds ≡ false)
+    → (j : ℕ) → elem j is ≡ true → elem j (i ∷ ds) ≡ false
+fresh i is ds u f j e = go (eqb j i) refl
+  where
+    go : (b : Bool) → eqb j i ≡ b → eqb j i || elem j ds ≡ false
+    go true x =
+        let q : j ≡ i = eqb-true j i x in
+        let v : elem i is ≡ true = subst (λ (k : ℕ). elem k is ≡ true) q e in
+        cc
+    go false x = rw x (f j (or-right-true (eqb j i) (elem j is) e))
+
+module _ (p : List ℕ) (es : List Patch) (a : Apart es (length p)) where
+  -- after each step the payload is `mixed`, whose size is `size-mixed`
+  pub edited-is : (is ds : List ℕ) → Order (length es) is → ((j : ℕ) → elem j is ≡ true → elem j ds ≡ false)
+      → edited es ds is (mixed p es ds) ≡ mixed p es (after ds is)
+  unfolding edited
+  edited-is [] ds o f = refl
+  edited-is (i ∷ is) ds o f =
+      rw (step p es a ds i (o .0) (f i (elem-same i is)))
+      (edited-is is (i ∷ ds) (o .2) (fresh i is ds (is-false _ (o .1)) f))
+
+  -- all done: all ranges replaced
+  pub mixed-order : (order : List ℕ) → Order (length es) order → length order ≡ length es → mixed p es (after [] order) ≡ replaced p es
+  mixed-order order o l =
+      mixed-all p es (after [] order) (λ j k. elem-after j [] order ∙ or-left-true _ false (order-all (length es) order o l j k))
+
+  -- each edit spliced once, in any order, its range moved: the payload at the end has all ranges replaced at once
+  pub demand3-payload : (order : List ℕ) → Order (length es) order → length order ≡ length es → edited es [] order p ≡ replaced p es
+  demand3-payload order o l =
+      ap (edited es [] order) (sym (mixed-none p es a)) ∙ edited-is order [] o (λ j e. refl) ∙ mixed-order order o l
+
+-- ---- one edit more is done: the sums, and the ranges still to come, move by its growth
+
+module _ (es : List Patch) (ds : List ℕ) (i k : ℕ) (u : elem i ds ≡ false) where
+  sum-lower : (v : ℕ → ℕ) → i < k → total (λ j. cond (elem j (i ∷ ds)) (v j) 0) k ≡ total (λ j. cond (elem j ds) (v j) 0) k + v i
+  sum-lower v h =
+      total-point _ _ (v i) k i h
+      (rw (elem-same i ds, u) (omega arith))
+      (λ j l n. ap (λ (b : Bool). cond b (v j) 0) (elem-other i j ds n))
+
+  sum-higher : (v : ℕ → ℕ) → k ≤ i → total (λ j. cond (elem j (i ∷ ds)) (v j) 0) k ≡ total (λ j. cond (elem j ds) (v j) 0) k
+  sum-higher v h = total-cong _ _ k (λ j l. ap (λ (b : Bool). cond b (v j) 0) (elem-other i j ds (omega arith)))
+
+  pub moved-lower : (x : ℕ) → i < k → removed es ds k ≤ x + added es ds k
+      → moved es (i ∷ ds) k x ≡ moved es ds k x + length (patchAt es i .bytes) - (patchAt es i .to - patchAt es i .from)
+  moved-lower x h w =
+      omega (arith, sum-lower (λ j. length (patchAt es j .bytes)) h, sum-lower (λ j. patchAt es j .to - patchAt es j .from) h)
+
+  pub moved-higher : (x : ℕ) → k ≤ i → moved es (i ∷ ds) k x ≡ moved es ds k x
+  moved-higher x h = rw (sum-higher (λ j. length (patchAt es j .bytes)) h, sum-higher (λ j. patchAt es j .to - patchAt es j .from) h)

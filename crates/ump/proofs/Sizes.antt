@@ -1,0 +1,112 @@
+-- Numbers of a shape: payload sizes of packets, and how many packets a payload takes. Assumes nothing.
+use mathlib.Core.Path.{_≡_, refl, sym, ap, _∙_}
+use mathlib.Core.Bool.{Bool, true, false, cond}
+use mathlib.Core.Logic.{_≢_}
+use Prim.Native.Nat.{ℕ, zero, suc, _+_, _-_, _*_, _/_, _%_, _^_, _≤_, _<_}
+use native.Mathlib.Nat.{zero-div, add-div-right, div-add-mod', mod-lt, mul-suc, mul-le-mul-left, le-div-iff-mul-le, div-mul-le-self, div-lt-iff-lt-mul, mul-pos}
+use native.Mathlib.Omega.{arith}
+use lib.Dec.{eqb, leb}
+use lib.Pow.{pow-pos, pow-mono}
+use borrow.Author.Tests.{le-leb, lt-leb, leb-true, eq-eqb, ne-eqb}
+use Rattle.ump.specs.Packet.{Shape, sizeOf}
+use Rattle.ump.specs.Packing.{statusFor, packetsFor, wordsFor}
+
+module _ (s : Shape) where
+  pub words-pos : 0 < s .words
+  words-pos = omega (arith, s .full)
+
+  pub limit-pos : 0 < s .limit
+  limit-pos = rw (s .limit-is) at (pow-pos (s .width))
+
+  pub limit-fits : s .limit ≤ 256
+  limit-fits = rw (s .limit-is) at (pow-mono (s .width-fits))
+
+  -- ---- the payload size of a packet
+
+  pub size-of-count : (count : ℕ) → count ≤ s .room + s .bias → sizeOf s count ≡ count - s .bias
+  unfolding sizeOf
+  size-of-count count h = rw (le-leb count (s .room + s .bias) h)
+
+  pub size-too-big : (count : ℕ) → s .room + s .bias < count → sizeOf s count ≡ 0
+  unfolding sizeOf
+  size-too-big count h = rw (lt-leb count (s .room + s .bias) h)
+
+  pub size-small : (count : ℕ) → sizeOf s count ≤ s .room
+  unfolding sizeOf
+  size-small count = go (leb count (s .room + s .bias)) refl
+    where
+      go : (b : Bool) → leb count (s .room + s .bias) ≡ b → cond b (count - s .bias) 0 ≤ s .room
+      go true e = omega (arith, leb-true count (s .room + s .bias) e)
+      go false e = omega arith
+
+  -- ---- the packets of n bytes
+
+  -- rounded up: one more than the packets that all bytes but the last fill
+  pub packets-are : (n : ℕ) → packetsFor s n ≡ suc ((n - 1) / s .room)
+  unfolding packetsFor
+  packets-are zero = ap suc (sym (zero-div (s .room)))
+  packets-are (suc n) =
+      let e : suc n + (s .room - 1) ≡ n + s .room = omega (arith, s .some-room) in
+      let d : suc n - 1 ≡ n = omega arith in
+      rw (ne-eqb (suc n) 0 (λ z. omega arith), e, d) (add-div-right n (s .some-room) ∙ omega arith)
+
+  pub packets-pos : (n : ℕ) → 0 < packetsFor s n
+  packets-pos n = rw (packets-are n) (omega arith)
+
+  -- the bytes fit, and one packet fewer would not hold them
+  pub packets-enough : (n : ℕ) → n ≤ s .room * packetsFor s n
+  packets-enough n = rw (packets-are n) (omega (arith, div-add-mod' (n - 1) (s .room), mod-lt (n - 1) (s .some-room)))
+
+  pub packets-fewest : (n p : ℕ) → suc p < packetsFor s n → s .room * suc p < n
+  packets-fewest n p h =
+      let k : suc p < suc ((n - 1) / s .room) = rw (packets-are n) at h in
+      let l : s .room * suc p ≤ s .room * ((n - 1) / s .room) = mul-le-mul-left (s .room) (omega arith) in
+      omega (arith, l, div-add-mod' (n - 1) (s .room), mul-suc (s .room) p, s .some-room)
+
+  -- packet p begins inside the payload, or at its end
+  pub packets-begin : (n p : ℕ) → p < packetsFor s n → s .room * p ≤ n
+  packets-begin n zero h = omega arith
+  packets-begin n (suc p) h = omega (arith, packets-fewest n p h)
+
+  -- any packets that hold the bytes are no fewer
+  pub packets-least : (m n : ℕ) → 0 < n → m ≤ s .room * n → packetsFor s m ≤ n
+  packets-least m n h k =
+      rw (packets-are m) (div-lt-iff-lt-mul (s .some-room) .1 (omega (arith, mul-pos (s .some-room) h)))
+
+  -- more bytes want no fewer
+  pub packets-mono : (m n : ℕ) → m ≤ n → packetsFor s m ≤ packetsFor s n
+  packets-mono m n h =
+      let l : (m - 1) / s .room * s .room ≤ n - 1 = omega (arith, div-mul-le-self (m - 1) (s .room)) in
+      let k : (m - 1) / s .room ≤ (n - 1) / s .room = le-div-iff-mul-le (s .some-room) .1 l in
+      rw (packets-are m, packets-are n) (omega arith)
+
+  pub words-mono : (m n : ℕ) → m ≤ n → wordsFor s m ≤ wordsFor s n
+  words-mono m n h = mul-le-mul-left (s .words) (packets-mono m n h)
+
+-- ---- the status of a packet by its number, as a branch in the source has the cases
+
+pub status-small : (n p : ℕ) → statusFor n p < 4
+unfolding statusFor
+status-small n p = go (eqb n 1) (eqb p 0) (eqb (suc p) n)
+  where
+    go : (a b c : Bool) → cond a 0 (cond b 1 (cond c 3 2)) < 4
+    go true b c = omega arith
+    go false true c = omega arith
+    go false false true = omega arith
+    go false false false = omega arith
+
+pub status-alone : (n p : ℕ) → n ≡ 1 → statusFor n p ≡ 0
+unfolding statusFor
+status-alone n p a = rw (eq-eqb n 1 a)
+
+pub status-start : (n p : ℕ) → n ≢ 1 → p ≡ 0 → statusFor n p ≡ 1
+unfolding statusFor
+status-start n p a b = rw (ne-eqb n 1 a, eq-eqb p 0 b)
+
+pub status-end : (n p : ℕ) → n ≢ 1 → p ≢ 0 → suc p ≡ n → statusFor n p ≡ 3
+unfolding statusFor
+status-end n p a b c = rw (ne-eqb n 1 a, ne-eqb p 0 b, eq-eqb (suc p) n c)
+
+pub status-inner : (n p : ℕ) → n ≢ 1 → p ≢ 0 → suc p ≢ n → statusFor n p ≡ 2
+unfolding statusFor
+status-inner n p a b c = rw (ne-eqb n 1 a, ne-eqb p 0 b, ne-eqb (suc p) n c)

@@ -9,3 +9,5 @@ pub mod Replace
 pub mod Signed
 pub mod Splicing
 pub mod Moving
+pub mod Bytes
+pub mod Positions

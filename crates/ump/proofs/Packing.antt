@@ -113,22 +113,25 @@ module _ (s : Shape) (g : ℕ) (id : List ℕ) (n : ℕ) (c : ℕ → List ℕ) 
   unfolding packs
   length-packs = length-joined (packsAt s g id n c) (s .words) n (λ p h. length-packsAt p)
 
+  pub packet-packs : (rest : List ℕ) (p : ℕ) → p < n → packet s (packs s g id n c ++ rest) p ≡ packsAt s g id n c p
+  unfolding packs
+  packet-packs rest p hp = part-joined (packsAt s g id n c) (s .words) n p rest (λ q h. length-packsAt q) hp
+
 module _ (s : Shape) (g : ℕ) (id : List ℕ) (n : ℕ) (c : ℕ → List ℕ)
     (hg : g < 16) (ht : length id ≡ s .ids) (bt : Below 256 id) (hc : (p : ℕ) → length (c p) ≤ s .room) (bc : (p : ℕ) → Below (s .limit) (c p)) where
   st-fits : (p : ℕ) → statusFor n p < 16
   st-fits p = omega (arith, status-small n p)
 
   module _ (rest : List ℕ) (p : ℕ) (hp : p < n) where
-    pub packet-packs : packet s (packs s g id n c ++ rest) p ≡ packsAt s g id n c p
-    unfolding packs
-    packet-packs = part-joined (packsAt s g id n c) (s .words) n p rest (λ q h. length-packsAt s g id n c ht hc q) hp
+    packet-here : packet s (packs s g id n c ++ rest) p ≡ packsAt s g id n c p
+    packet-here = packet-packs s g id n c ht hc rest p hp
 
     word-packs : firstWord s (packs s g id n c ++ rest) p ≡ getD (packsAt s g id n c p) 0 0
     word-packs =
         let m = packs s g id n c ++ rest in
         let e : s .words * p + 0 ≡ s .words * p = omega arith in
         sym
-        (ap (λ (l : List ℕ). getD l 0 0) (sym packet-packs)
+        (ap (λ (l : List ℕ). getD l 0 0) (sym packet-here)
         ∙ getD-take (s .words) (drop (s .words * p) m) 0 0 (words-pos s)
         ∙ getD-drop (s .words * p) m 0 0
         ∙ ap (λ (k : ℕ). getD m k 0) e)
@@ -155,12 +158,12 @@ module _ (s : Shape) (g : ℕ) (id : List ℕ) (n : ℕ) (c : ℕ → List ℕ)
 
     pub payloadAt-packs : payloadAt s (packs s g id n c ++ rest) p ≡ c p
     unfolding packsAt payloadAt
-    payloadAt-packs = rw (packet-packs, word-packs) (frame-payload s (statusFor n p) g id (c p) (st-fits p) hg ht (hc p) bt (bc p))
+    payloadAt-packs = rw (packet-here, word-packs) (frame-payload s (statusFor n p) g id (c p) (st-fits p) hg ht (hc p) bt (bc p))
 
     -- and is clean
     pub filler-packs : fillerAt s (packs s g id n c ++ rest) p ≡ replicate (s .room - length (c p)) 0
     unfolding packsAt fillerAt
-    filler-packs = rw (packet-packs, word-packs) (frame-filler s (statusFor n p) g id (c p) (st-fits p) hg ht (hc p) bt (bc p))
+    filler-packs = rw (packet-here, word-packs) (frame-filler s (statusFor n p) g id (c p) (st-fits p) hg ht (hc p) bt (bc p))
 
   pub payload-packs : (rest : List ℕ) → payload s (packs s g id n c ++ rest) n ≡ joined c n
   unfolding payload

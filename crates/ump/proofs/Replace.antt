@@ -200,7 +200,7 @@ module _ (p : List ℕ) (es : List Patch) (a : Apart es (length p)) where
 
     pub range-inside : moved es ds i (patchAt es i .to) ≤ length (mixed p es ds)
     range-inside =
-        rw (around, ← append-assoc) (omega (arith, at-to, length-append ((J ++ gap p es i) ++ old) R))
+        rw (around, ← (append-assoc (J ++ gap p es i) old R)) (omega (arith, at-to, length-append ((J ++ gap p es i) ++ old) R))
 
     pub step : spliced (mixed p es ds) (moved es ds i (patchAt es i .from)) (moved es ds i (patchAt es i .to)) (patchAt es i .bytes) ≡ mixed p es (i ∷ ds)
     step =

@@ -1,0 +1,144 @@
+-- The fewest-packet form by position: what each octet and each word of it is. Assumes nothing.
+use mathlib.Core.Path.{_≡_, refl, sym, ap, _∙_}
+use mathlib.Core.Bool.{Bool, true, false, cond}
+use mathlib.Core.List.{List, [], _∷_, _++_, append-nil}
+use Prim.Native.Nat.{ℕ, zero, suc, _+_, _-_, _*_, _/_, _%_, _≤_, _<_, min}
+use native.Mathlib.Nat.{div-add-mod, mod-lt, div-lt-iff-lt-mul, mul-comm}
+use native.Mathlib.Omega.{arith}
+use lib.Dec.{ltb}
+use lib.ListN.{length, getD, take, drop, replicate, length-append, length-take, length-drop, length-replicate, List·getD-append}
+use lib.Seq.{getD-take, getD-drop, getD-append-add}
+use borrow.Author.Tests.{lt-ltb, le-ltb}
+use Rattle.ump.specs.Word.{word, wordsOf}
+use Rattle.ump.specs.Packet.{Shape, sysex8, sysex7, header, packet}
+use Rattle.ump.specs.Packing.{statusFor, frame, packsAt, packs, packetsFor, wordsFor, chunk, pack}
+use Rattle.ump.proofs.Words.{getD-wordsOf}
+use Rattle.ump.proofs.Sizes.{words-pos, packets-begin}
+use Rattle.ump.proofs.Packing.{length-frame, length-chunk, packet-packs}
+use Rattle.ump.proofs.First.{Side, under, over, side}
+
+-- ---- the octets and words of n bytes, byte i of which is f i
+
+-- the header octets of packet p
+abbrev pub headOf : Shape → ℕ → List ℕ → ℕ → ℕ → List ℕ
+headOf s g id n p = (s .type * 16 + g) ∷ (statusFor (packetsFor s n) p * 16 + (min (s .room) (n - s .room * p) + s .bias)) ∷ id
+
+-- octet q of packet p
+unfoldable pub octetAt : Shape → ℕ → List ℕ → ℕ → (ℕ → ℕ) → ℕ → ℕ → ℕ
+octetAt s g id n f p q = cond (ltb q (header s)) (getD (headOf s g id n p) q 0) (f (s .room * p + (q - header s)))
+
+-- word k of the message
+unfoldable pub wordAt : Shape → ℕ → List ℕ → ℕ → (ℕ → ℕ) → ℕ → ℕ
+wordAt s g id n f k =
+    let o : ℕ → ℕ = λ j. octetAt s g id n f (k / s .words) (4 * (k % s .words) + j) in
+    word (o 0) (o 1) (o 2) (o 3)
+
+-- ---- they are those of the fewest-packet form
+
+getD-zeros : (k i : ℕ) → _≡_ {A = ℕ} (getD (replicate k 0) i 0) 0
+getD-zeros zero i = refl
+getD-zeros (suc k) zero = refl
+getD-zeros (suc k) (suc i) = getD-zeros k i
+
+getD-padded : (xs : List ℕ) (k i : ℕ) → getD (xs ++ replicate k 0) i 0 ≡ getD xs i 0
+getD-padded [] k i = getD-zeros k i
+getD-padded (x ∷ xs) k zero = refl
+getD-padded (x ∷ xs) k (suc i) = getD-padded xs k i
+
+module _ (s : Shape) (g : ℕ) (id bs : List ℕ) (hid : length id ≡ s .ids) where
+  abbrev size : ℕ
+  size = length bs
+
+  abbrev status : ℕ → ℕ
+  status p = statusFor (packetsFor s size) p
+
+  length-head : (p : ℕ) → length (headOf s g id size p) ≡ header s
+  length-head p = omega arith
+
+  size-chunk : (p : ℕ) → length (chunk s bs p) ≡ min (s .room) (size - s .room * p)
+  size-chunk p = simp (length-take, length-drop)
+
+  frame-split : (p : ℕ)
+      → frame s (status p) g id (chunk s bs p) ≡ headOf s g id size p ++ (chunk s bs p ++ replicate (s .room - length (chunk s bs p)) 0)
+  unfolding frame
+  frame-split p = rw (size-chunk p)
+
+  getD-frame : (p q : ℕ) → q < 4 * s .words → getD (frame s (status p) g id (chunk s bs p)) q 0 ≡ octetAt s g id size (λ i. getD bs i 0) p q
+  unfolding octetAt
+  getD-frame p q h = rw (frame-split p) (go (side q (header s)))
+    where
+      go : Side q (header s)
+          → getD (headOf s g id size p ++ (chunk s bs p ++ replicate (s .room - length (chunk s bs p)) 0)) q 0
+          ≡ cond (ltb q (header s)) (getD (headOf s g id size p) q 0) (getD bs (s .room * p + (q - header s)) 0)
+      go (under l e) = rw e (List·getD-append (headOf s g id size p) _ 0 q (omega (arith, length-head p)))
+      go (over l e) =
+          let i : ℕ = q - header s in
+          let z : q ≡ length (headOf s g id size p) + i = omega (arith, length-head p) in
+          let r : i < s .room = omega (arith, s .full) in
+          rw e
+          (ap (λ (k : ℕ). getD (headOf s g id size p ++ (chunk s bs p ++ replicate (s .room - length (chunk s bs p)) 0)) k 0) z
+          ∙ getD-append-add (headOf s g id size p) (chunk s bs p ++ replicate (s .room - length (chunk s bs p)) 0) i 0
+          ∙ getD-padded (chunk s bs p) (s .room - length (chunk s bs p)) i
+          ∙ getD-take (s .room) (drop (s .room * p) bs) i 0 r
+          ∙ getD-drop (s .room * p) bs i 0)
+
+  -- word k of the fewest-packet form
+  pub getD-pack : (k : ℕ) → k < wordsFor s size → getD (pack s g id bs) k 0 ≡ wordAt s g id size (λ i. getD bs i 0) k
+  unfolding pack wordAt packsAt
+  getD-pack k h =
+      let n : ℕ = packetsFor s size in
+      let p : ℕ = k / s .words in
+      let j : ℕ = k % s .words in
+      let e : s .words * p + j ≡ k = div-add-mod k (s .words) in
+      let l : j < s .words = mod-lt k (words-pos s) in
+      let hp : p < n = div-lt-iff-lt-mul (words-pos s) .1 (rw mul-comm at h) in
+      let whole : length (frame s (status p) g id (chunk s bs p)) ≡ 4 * s .words = length-frame s (status p) g id (chunk s bs p) hid (length-chunk s bs p) in
+      let at : (i : ℕ) → i < 4 → getD (frame s (status p) g id (chunk s bs p)) (4 * j + i) 0 ≡ octetAt s g id size (λ x. getD bs x 0) p (4 * j + i) = λ i b. getD-frame p (4 * j + i) (omega arith) in
+      let z : 4 * j + 0 ≡ 4 * j = omega arith in
+      let m : List ℕ = packs s g id n (chunk s bs) ++ [] in
+      ap (λ (x : List ℕ). getD x k 0) (sym (append-nil (packs s g id n (chunk s bs))))
+      ∙ ap (λ (x : ℕ). getD m x 0) (sym e)
+      ∙ sym (getD-drop (s .words * p) m j 0)
+      ∙ sym (getD-take (s .words) (drop (s .words * p) m) j 0 l)
+      ∙ ap (λ (x : List ℕ). getD x j 0) (packet-packs s g id n (chunk s bs) hid (length-chunk s bs) [] p hp)
+      ∙ getD-wordsOf (frame s (status p) g id (chunk s bs p)) j (omega arith)
+      ∙ rw (z, getD-frame p (4 * j) (omega arith), at 1 (omega arith), at 2 (omega arith), at 3 (omega arith))
+
+-- ---- word by word, for the loops that write it
+
+module _ (s : Shape) (g : ℕ) (id : List ℕ) (n : ℕ) (f : ℕ → ℕ) where
+  octet-body : (p q : ℕ) → header s ≤ q → octetAt s g id n f p q ≡ f (s .room * p + (q - header s))
+  unfolding octetAt
+  octet-body p q h = rw (le-ltb q (header s) h)
+
+  octet-head : (p q : ℕ) → q < header s → octetAt s g id n f p q ≡ getD (headOf s g id n p) q 0
+  unfolding octetAt
+  octet-head p q h = rw (lt-ltb q (header s) h)
+
+  -- a word that is not its packet's first: four bytes
+  pub word-body : (k i : ℕ) → 0 < k % s .words → i + header s ≡ s .room * (k / s .words) + 4 * (k % s .words)
+      → wordAt s g id n f k ≡ word (f i) (f (i + 1)) (f (i + 2)) (f (i + 3))
+  unfolding wordAt
+  word-body k i h e =
+      let p : ℕ = k / s .words in
+      let j : ℕ = k % s .words in
+      let at : (d : ℕ) → octetAt s g id n f p (4 * j + d) ≡ f (i + d) = λ d. octet-body p (4 * j + d) (omega (arith, s .ids-fit)) ∙ ap f (omega (arith, s .ids-fit)) in
+      let z : i + 0 ≡ i = omega arith in
+      rw (at 0, at 1, at 2, at 3, z)
+
+-- the first word of a packet: its header, and a first byte of SysEx8 or two of SysEx7
+pub word-head8 : (g id n : ℕ) (f : ℕ → ℕ) (k : ℕ) → k % 4 ≡ 0
+    → wordAt sysex8 g (id ∷ []) n f k
+    ≡ word (80 + g) (statusFor (packetsFor sysex8 n) (k / 4) * 16 + (min 13 (n - 13 * (k / 4)) + 1)) id (f (13 * (k / 4)))
+unfolding wordAt octetAt
+word-head8 g id n f k e =
+    let z : 13 * (k / 4) + 0 ≡ 13 * (k / 4) = omega arith in
+    rw (e, z)
+
+pub word-head7 : (g n : ℕ) (f : ℕ → ℕ) (k : ℕ) → k % 2 ≡ 0
+    → wordAt sysex7 g [] n f k
+    ≡ word (48 + g) (statusFor (packetsFor sysex7 n) (k / 2) * 16 + (min 6 (n - 6 * (k / 2)) + 0)) (f (6 * (k / 2))) (f (6 * (k / 2) + 1))
+unfolding wordAt octetAt
+word-head7 g n f k e =
+    let z : 6 * (k / 2) + 0 ≡ 6 * (k / 2) = omega arith in
+    rw (e, z)

@@ -11,3 +11,4 @@ pub mod Splicing
 pub mod Moving
 pub mod Bytes
 pub mod Positions
+pub mod NotEmpty

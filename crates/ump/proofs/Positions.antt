@@ -8,7 +8,7 @@ use native.Mathlib.Omega.{arith}
 use lib.Dec.{ltb}
 use lib.ListN.{length, getD, take, drop, replicate, length-append, length-take, length-drop, length-replicate, List·getD-append}
 use lib.Seq.{getD-take, getD-drop, getD-append-add}
-use borrow.Author.Tests.{lt-ltb, le-ltb}
+use borrow.Author.Tests.{le-ltb}
 use Rattle.ump.specs.Word.{word, wordsOf}
 use Rattle.ump.specs.Packet.{Shape, sysex8, sysex7, header, packet}
 use Rattle.ump.specs.Packing.{statusFor, frame, packsAt, packs, packetsFor, wordsFor, chunk, pack}
@@ -110,10 +110,6 @@ module _ (s : Shape) (g : ℕ) (id : List ℕ) (n : ℕ) (f : ℕ → ℕ) where
   octet-body : (p q : ℕ) → header s ≤ q → octetAt s g id n f p q ≡ f (s .room * p + (q - header s))
   unfolding octetAt
   octet-body p q h = rw (le-ltb q (header s) h)
-
-  octet-head : (p q : ℕ) → q < header s → octetAt s g id n f p q ≡ getD (headOf s g id n p) q 0
-  unfolding octetAt
-  octet-head p q h = rw (lt-ltb q (header s) h)
 
   -- a word that is not its packet's first: four bytes
   pub word-body : (k i : ℕ) → 0 < k % s .words → i + header s ≡ s .room * (k / s .words) + 4 * (k % s .words)

@@ -8,7 +8,7 @@ use lib.ListN.{length}
 use lib.Signed.{mag}
 use Rattle.ump.proofs.First.{Side, under, over, side}
 use lib.IntN.{ℤ, pos, negsuc, _+ℤ_, _-ℤ_, negℤ, subℕ, +ℤ-assoc, +ℤ-comm, negℤ-+ℤ, pos-+ℤ-pos, +ℤ-idr}
-use Rattle.ump.specs.Edits.{Patch, patchAt, editAt, elem, total, added, removed, moved, growth, totalℤ, grown}
+use Rattle.ump.specs.Edits.{Edit, movedPast, Patch, patchAt, editAt, elem, total, added, removed, moved, growth, totalℤ, grown}
 use borrow.Author.Tests.{le-ltb}
 
 -- a - b of naturals, as a sum of signed numbers
@@ -54,3 +54,7 @@ grown-is es ds (suc i) =
 pub moved-signed : (es : List Patch) (ds : List ℕ) (i x : ℕ) → removed es ds i ≤ x + added es ds i → pos x +ℤ grown es ds i ≡ pos (moved es ds i x)
 moved-signed es ds i x h =
     ap (λ (z : ℤ). pos x +ℤ z) (grown-is es ds i) ∙ move-pos x (added es ds i) (removed es ds i) h
+
+-- moving an edit adds the done edit's growth, which does not take a place behind it below zero
+pub moved-by-growth : (e : Edit) (x : ℕ) → e .to - e .from ≤ x + e .length → pos x +ℤ growth e ≡ pos (movedPast e x)
+moved-by-growth e x h = move-pos x (e .length) (e .to - e .from) h

@@ -85,13 +85,12 @@ module _ (s : Shape) (g : ℕ) (id bs : List ℕ) (size : ℕ) (ws : List ℕ) (
   stored-holds : Holds s g id new size (stored ws len m) (wordsFor s (length new))
   unfolding stored
   stored-holds =
-      let rest : List ℕ = replicate (len - length m) 0 ++ drop (max len (length m)) ws in
-      let l : length (m ++ rest) ≡ length ws = length-stored ws len m (h .valid .inside) (omega (arith, lm, h .buffer)) in
+      let l : length (stored ws len m) ≡ length ws = length-stored ws len m (h .valid .inside) (omega (arith, lm, h .buffer)) in
       record {
-        valid = pack-valid s g id new hg ht bt bb rest (omega (arith, l, h .valid .short-enough));
-        group-is = group-of-pack s g id new hg ht bt bb rest;
-        id-is = id-of-pack s g id new hg ht bt bb rest;
-        carries = payloadOf-pack s g id new hg ht bt bb rest;
+        valid = pack-valid s g id new hg ht bt bb _ (omega (arith, l, h .valid .short-enough));
+        group-is = group-of-pack s g id new hg ht bt bb _;
+        id-is = id-of-pack s g id new hg ht bt bb _;
+        carries = payloadOf-pack s g id new hg ht bt bb _;
         buffer = l ∙ h .buffer;
       }
 

@@ -16,6 +16,8 @@ use Rattle.ump.specs.Splice.{Spliced, stored, rewritten, repack, splice}
 use Rattle.ump.specs.Edits.{Patch, total, run}
 use Rattle.ump.specs.Stream.{toSysex7}
 
+-- Where the buffer is longer than 01's words, the words behind are 9, so that what must stay is seen to stay.
+
 -- a first word and three zero words
 abbrev pub alone : ℕ → List ℕ
 alone x = x ∷ 0 ∷ 0 ∷ 0 ∷ []
@@ -57,7 +59,7 @@ done length growth = gives (record { length = length; growth = growth })
 pub record Samples : Type 0 where
   pub P1 : checked sysex8 (alone 0x50010000) 4 ≡ message 0 (0 ∷ []) 0 4
   pub P2 : (checked sysex8 message2 4 ≡ message 2 (7 ∷ []) 2 4) × (payloadOf sysex8 message2 4 ≡ 0x41 ∷ 0x42 ∷ [])
-  pub P3 : repack sysex8 message3 8 ≡ (gives 4, alone 0x50010900 ++ replicate 4 0)
+  pub P3 : repack sysex8 (message3 ++ 9 ∷ []) 8 ≡ (gives 4, alone 0x50010900 ++ (replicate 4 0 ++ 9 ∷ []))
   pub P4 : repack sysex8 message4 8 ≡ (gives 4, 0x500E0001 ∷ 0x02030405 ∷ 0x06070809 ∷ 0x0A0B0C0D ∷ replicate 4 0)
   pub P5 : repack sysex8 message5 12 ≡ (gives 4, 0x510405A0 ∷ 0xA1A20000 ∷ replicate 10 0)
   pub P6 : splice sysex8 (message2 ++ replicate 4 9) 4 1 1 bytes6

@@ -8,7 +8,6 @@ use native.Mathlib.Omega.{arith}
 use lib.Dec.{eqb}
 use lib.Pow.{pow-pos, pow-lt, split, shr-shr, shr-mod, ones-split, high-ones, ones-lt, shl-exact}
 use lib.Bits.{bitAnd, bitOr, and-block, or-block, and-high, and-mask, or-shifted, or-zero-r}
-use Rattle.refusal.specs.Answer.{gives, refused}
 use Rattle.refusal.proofs.Laws.{never-both, never-refused, fault-once}
 use Rattle.ump.specs.Word.{withPart}
 use Rattle.bit_ops.specs.Meaning.{bitNumber, bitMeaning, wordMeaning, setMeaning}

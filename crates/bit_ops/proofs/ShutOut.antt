@@ -6,6 +6,7 @@ use lib.Dec.{eqb}
 use borrow.Author.Tests.{eqb-false}
 use contract.Lifetimes.{Lfts}
 use Rattle.refusal.specs.Answer.{Answer, gives, refused}
+use Rattle.refusal.specs.declared.Fault.{Fault}
 use Rattle.refusal.specs.declared.Refusal.the-variants.{Range, Field}
 use Rattle.refusal.specs.declared.ByteRead.the-variants as byte-read
 use Rattle.ump.specs.Word.{getField, setField}
@@ -40,16 +41,20 @@ differ {x} {y} e unequal = eqb-false (code x) (code y) unequal (ap code e)
 abbrev sample : ℕ
 sample = 0x12345679
 
--- of a read: the field counted from the least significant end; a good index refused, or an index past the last taken,
--- or refused by another number or at another place
--- of a set: bits outside the field changed; a value too big cut to the field, or a good one refused, or an index past the last taken
+abbrev field-fault : Fault
+field-fault = record { refusal = Field; place = 0 }
+
+-- A read: counted from the least significant end (low), an octet for its septet (octet), an index past the last taken (past),
+-- a good index refused (refused), a bad one refused by another number (number) or at another place (place).
+-- A set: counted from the least significant end (low), bits of another field changed (next, other), an octet's top bit cleared
+-- (top), an index past the last taken (past), a value that is too big cut (cut) or put in (big), good ones refused (refused).
 record ShutOut : Type 0 where
   bit-low : Shuts bit.Post (sample, (0, tt)) (bit-read.Value true)
   bit-past : Shuts bit.Post (sample, (32, tt)) (bit-read.Value true)
   set-bit-low : Shuts set-bit.Post (sample, (0, (true, tt))) (field-set.Word sample)
   set-bit-past : Shuts set-bit.Post (sample, (32, (true, tt))) (field-set.Word sample)
   crumb-low : Shuts crumb.Post (sample, (0, tt)) (byte-read.Value 1)
-  crumb-refused : Shuts crumb.Post (sample, (15, tt)) (byte-read.Refused (record { refusal = Field; place = 0 }))
+  crumb-refused : Shuts crumb.Post (sample, (15, tt)) (byte-read.Refused field-fault)
   set-crumb-next : Shuts set-crumb.Post (0, (0, (3, tt))) (field-set.Word 0xF0000000)
   set-crumb-cut : Shuts set-crumb.Post (0, (0, (5, tt))) (field-set.Word 0x40000000)
   nibble-low : Shuts nibble.Post (sample, (0, tt)) (byte-read.Value 9)
@@ -63,9 +68,9 @@ record ShutOut : Type 0 where
   octet-low : Shuts octet.Post (sample, (0, tt)) (byte-read.Value 0x79)
   octet-past : Shuts octet.Post (sample, (4, tt)) (byte-read.Value 0x12)
   set-octet-low : Shuts set-octet.Post (sample, (0, (0, tt))) (field-set.Word 0x12345600)
-  set-octet-refused : Shuts set-octet.Post (sample, (3, (0xFF, tt))) (field-set.Refused (record { refusal = Field; place = 0 }))
+  set-octet-refused : Shuts set-octet.Post (sample, (3, (0xFF, tt))) (field-set.Refused field-fault)
   word-low : Shuts word.Post (sample, (0, tt)) (word-read.Value 0x5679)
-  word-refused : Shuts word.Post (sample, (1, tt)) (word-read.Refused (record { refusal = Field; place = 0 }))
+  word-refused : Shuts word.Post (sample, (1, tt)) (word-read.Refused field-fault)
   set-word-other : Shuts set-word.Post (sample, (0, (0xABCD, tt))) (field-set.Word 0xABCD0000)
   set-word-past : Shuts set-word.Post (sample, (2, (0, tt))) (field-set.Word sample)
 

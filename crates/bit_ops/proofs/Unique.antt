@@ -1,5 +1,5 @@
 -- Any two outcomes that a promise allows are equal. Assumes nothing.
-use mathlib.Core.Path.{_≡_, sym, _∙_}
+use mathlib.Core.Path.{sym, _∙_}
 use Rattle.refusal.proofs.Laws.{byte-once}
 use Rattle.refusal.proofs.Tight.{FixesResult}
 use Rattle.bit_ops.proofs.Laws.{bit-once, word-once, set-once}

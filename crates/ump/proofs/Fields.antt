@@ -4,13 +4,13 @@ use mathlib.Core.Path.{_≡_, refl, sym, ap, _∙_, subst}
 use mathlib.Core.Bool.{Bool, true, false}
 use mathlib.Core.Logic.{_⊎_, inl, inr}
 use Prim.Native.Nat.{ℕ, suc, _+_, _-_, _*_, _/_, _%_, _^_, _≤_, _<_}
-use native.Mathlib.Nat.{mod-lt, div-lt-iff-lt-mul, mul-le-mul-right, suc-mul, le-trans}
+use native.Mathlib.Nat.{mod-lt, div-lt-iff-lt-mul, mul-le-mul-right, suc-mul}
 use native.Mathlib.Decide.{decLt}
 use native.Mathlib.Omega.{arith}
 use lib.Dec.{leb}
 use lib.Pow.{pow-pos, pow-add, high, low, shr-shr, field, mod-mod-pow, shr-lt}
-use borrow.Author.Tests.{leb-true, leb-false, le-leb, lt-leb}
-use Rattle.refusal.specs.Answer.{Answer, gives, refused, _▷_, guard}
+use borrow.Author.Tests.{leb-false, le-leb, lt-leb}
+use Rattle.refusal.specs.Answer.{gives, refused, _▷_, guard}
 use Rattle.refusal.proofs.Laws.{never-refused}
 use Rattle.ump.specs.Word.{Field, bitField, septetField, shift, part, withPart, getField, setField}
 
@@ -118,7 +118,7 @@ abbrev pub Apart : Field → ℕ → Field → ℕ → Type 0
 Apart kind i other j = (shift other j + other .width ≤ shift kind i) ⊎ (shift kind i + kind .width ≤ shift other j)
 
 -- of two fields of a kind, the later ends where the earlier begins, or before
-pub shift-below : (kind : Field) → kind .width ≤ kind .step → (i j : ℕ) → i < j → j < kind .count
+shift-below : (kind : Field) → kind .width ≤ kind .step → (i j : ℕ) → i < j → j < kind .count
     → shift kind j + kind .width ≤ shift kind i
 shift-below kind narrow i j later below =
     let n = kind .count - 1 - j in
@@ -129,12 +129,12 @@ module _ (kind : Field) (x i value y : ℕ) (answered : setField kind x i value 
   told : Written kind x i value y
   told = set-tells kind x i value answered
 
-  -- the value that was set
+  -- that field reads as the value
   pub reads-set : getField kind y i ≡ gives value
   reads-set =
       get-given kind y i (told .there) ∙ ap gives (rw (told .word) (part-set x (shift kind i) (kind .width) value (told .fits)))
 
-  -- a field that shares no bit with it, of any kind, reads as it did; an index past its kind is refused as it was
+  -- a field of any kind that shares no bit with it reads as it did, and an index past its kind is refused as it was
   pub reads-apart : (other : Field) (j : ℕ) → (j < other .count → Apart kind i other j) → getField other y j ≡ getField other x j
   reads-apart other j apart = go (decLt j (other .count))
     where
@@ -146,7 +146,7 @@ module _ (kind : Field) (x i value y : ℕ) (answered : setField kind x i value 
       go (yes below) = get-given other y j below ∙ ap gives (same (apart below)) ∙ sym (get-given other x j below)
       go (no past) = get-refused other y j (omega arith) ∙ sym (get-refused other x j (omega arith))
 
-  -- another field of the kind
+  -- any other field of its kind reads as it did
   pub reads-other : kind .width ≤ kind .step → (j : ℕ) → (i ≡ j → ⊥) → getField kind y j ≡ getField kind x j
   reads-other narrow j differs = reads-apart kind j (λ below. go below (decLt i j))
     where

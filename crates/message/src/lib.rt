@@ -1,0 +1,4 @@
+// Messages in lent words: the check, payload bytes, and the setters; SysEx8 and SysEx7.
+mod scan;
+pub mod sysex7;
+pub mod sysex8;

@@ -1,0 +1,1 @@
+// SysEx7 messages.

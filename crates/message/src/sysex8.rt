@@ -1,0 +1,1 @@
+// SysEx8 messages.

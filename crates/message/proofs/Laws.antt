@@ -1,9 +1,9 @@
 -- What the loops over packets share. Assumes nothing.
 use mathlib.Core.Path.{_≡_, refl, sym, ap, _∙_}
 use Prim.Native.Nat.{ℕ, suc, _+_, _*_, _≤_, _<_}
-use native.Mathlib.Nat.{mul-suc, mul-le-mul-left, le-trans}
+use native.Mathlib.Nat.{mul-suc, mul-le-mul-left, le-mul-of-pos-right, mul-comm}
 use native.Mathlib.Omega.{arith}
-use mathlib.Core.Bool.{true, false, not, _||_}
+use mathlib.Core.Bool.{Bool, true, false, not, _||_}
 use mathlib.Core.List.{List}
 use lib.Dec.{eqb, ltb}
 use borrow.Author.Tests.{lt-ltb, le-ltb, ne-eqb}
@@ -11,7 +11,9 @@ use lib.ListN.{length}
 use mir.Syntax.{w64}
 use mir.Val.{Fits}
 use Rattle.ump.specs.Packing.{statusFor}
+use Rattle.ump.specs.Check.{first}
 use Rattle.ump.proofs.Sizes.{status-small}
+use Rattle.ump.proofs.First.{first-le}
 use Rattle.message.specs.Scan.{Inside}
 
 -- a packet below their number is inside the words
@@ -19,6 +21,7 @@ pub record Here (stride p : ℕ) (ws : List ℕ) : Type 0 where
   pub index : stride * p < length ws
   pub there : stride * p + stride ≤ length ws
   pub few : stride * p + stride ≤ 16384
+  pub number : p < 16384
   pub fits : Fits w64 (stride * p)
   pub bytes-fit : Fits w64 (stride * p * 4)
 
@@ -31,6 +34,7 @@ here {stride} {n} {ws} p h k =
       index = i;
       there = omega (arith, h .there);
       few = omega (arith, h .few);
+      number = omega (arith, le-mul-of-pos-right n (h .some-words), mul-comm n stride, h .few);
       fits = record { fits = omega arith };
       bytes-fit = record { fits = omega arith };
     }
@@ -50,3 +54,16 @@ module _ (count least most : ℕ) where
 -- a status over 3 is none that a place has
 pub over-three : (status n p : ℕ) → 3 < status → not (eqb status (statusFor n p)) ≡ true
 over-three status n p h = ap not (ne-eqb status (statusFor n p) (λ e. omega (arith, status-small n p)))
+
+-- the word index of the packet that a search found, or of none, fits
+pub found-fits : {stride n : ℕ} {ws : List ℕ} (f : ℕ → Bool) → Inside stride n ws → {i : ℕ} → i ≡ first f n → Fits w64 (stride * i)
+found-fits {stride} {n} f h {i} e =
+    let l : stride * i ≤ stride * n = mul-le-mul-left stride (rw e (first-le f n)) in
+    record { fits = omega (arith, h .few) }
+
+-- there is a word to begin with
+pub begins : {stride n : ℕ} {ws : List ℕ} → Inside stride n ws → 0 < n → 0 < length ws
+begins h k = omega (arith, here 0 h k .index)
+
+pub lt-irrefl : {a b : ℕ} → a < b → b ≤ a → ⊥
+lt-irrefl h k = omega arith

@@ -6,15 +6,14 @@ use mathlib.Core.List.{List}
 use Prim.Native.Nat.{ℕ, _+_, _*_, _/_, _%_, _^_, _≤_, _<_}
 use lib.Dec.{eqb, ltb}
 use lib.ListN.{length, getD}
-use Rattle.refusal.specs.Answer.{Answer, gives, refused, Verdict, pass, _▷_, guard}
+use Rattle.refusal.specs.Answer.{Answer, gives, refused, pass, _▷_, guard}
 use Rattle.refusal.specs.Number.{numberOf}
 use Rattle.refusal.specs.Meaning.{faultOf}
 use Rattle.ump.specs.Word.{nibble}
-use Rattle.ump.specs.Packet.{Shape}
+use Rattle.ump.specs.Packet.{Shape, payload}
 use Rattle.ump.specs.Packing.{statusFor}
 use Rattle.ump.specs.Check.{check, checkPackets, payloadOf}
 use Rattle.message.specs.declared.scan.Bounds as bounds
-use Rattle.message.specs.declared.scan.Verdict as verdict
 use Rattle.message.specs.declared.scan.Total as total
 use Rattle.message.specs.declared.scan.Scan as scan
 
@@ -49,10 +48,6 @@ abbrev pub boundsMeaning : bounds.Bounds → Answer ℕ
 boundsMeaning (bounds.the-variants.Packets n) = gives n
 boundsMeaning (bounds.the-variants.Refused refusal) = refused (numberOf refusal) 0
 
-abbrev pub verdictMeaning : verdict.Verdict → Verdict
-verdictMeaning verdict.the-variants.Pass = pass
-verdictMeaning (verdict.the-variants.Refused fault) = faultOf fault
-
 abbrev pub scanMeaning : scan.Scan → Answer ℕ
 scanMeaning (scan.the-variants.Size size) = gives size
 scanMeaning (scan.the-variants.Refused fault) = faultOf fault
@@ -61,15 +56,20 @@ scanMeaning (scan.the-variants.Refused fault) = faultOf fault
 abbrev pub scanOf : Shape → List ℕ → ℕ → Answer ℕ
 scanOf shape words len = check shape words len ▷ gives (length (payloadOf shape words len))
 
--- the numbers of a shape
-pub record Shaped (shape : Shape) (stride type least most ids : ℕ) : Type 0 where
+-- a stream id is compared modulo 256 where a shape has one, and modulo 1 where it has none
+pub data IdModulus : ℕ → ℕ → Type 0 where
+  no-id : IdModulus 0 1
+  one-id : IdModulus 1 256
+
+-- the numbers of a shape: words in a packet, message type, least and most count, and what the id is compared modulo
+pub record Shaped (shape : Shape) (stride type least most modulus : ℕ) : Type 0 where
   pub words-are : shape .words ≡ stride
   pub type-is : shape .type ≡ type
   pub least-is : shape .bias ≡ least
   pub most-is : shape .room + shape .bias ≡ most
-  pub ids-are : shape .ids ≡ ids
+  pub ids-are : IdModulus (shape .ids) modulus
 
--- what a total says: the packets pass, and this is the size of their payload
+-- what a total says of n packets: they pass, and this is the size of their payload; or they do not pass
 abbrev pub InOrder : Shape → List ℕ → ℕ → total.Total → Type 0
-InOrder shape words n (total.the-variants.Size size) = (checkPackets shape words n ≡ pass) × (size ≡ length (payloadOf shape words (shape .words * n)))
-InOrder shape words n total.the-variants.Fault = Unit {0}
+InOrder shape words n (total.the-variants.Size size) = (checkPackets shape words n ≡ pass) × (size ≡ length (payload shape words n))
+InOrder shape words n total.the-variants.Fault = checkPackets shape words n ≡ pass → ⊥

@@ -7,7 +7,9 @@ ghost use Rattle.ump.specs.Packet.{Shape};
 ghost use Rattle.ump.specs.Packing.{statusFor};
 ghost use Rattle.ump.specs.Check.{first, checkPackets, statusNumber};
 ghost use Rattle.refusal.specs.Number.{numberOf};
-ghost use Rattle.message.specs.Scan.{Inside, otherAt, outOfStep, countOut, boundsOf, boundsMeaning, scanMeaning, scanOf, verdictMeaning, Shaped, InOrder};
+ghost use Rattle.message.specs.Scan.{Inside, otherAt, outOfStep, countOut, boundsOf, boundsMeaning, scanMeaning, scanOf, Shaped, InOrder};
+ghost use Rattle.refusal.specs.Answer.{pass};
+ghost use Rattle.refusal.specs.Meaning.{faultOf};
 use refusal::Fault;
 use refusal::Refusal;
 
@@ -15,12 +17,6 @@ use refusal::Refusal;
 pub(crate) enum Bounds {
     Packets(usize),
     Refused(Refusal),
-}
-
-// Whether all packets pass.
-pub(crate) enum Verdict {
-    Pass,
-    Refused(Fault),
 }
 
 // The payload size of packets that are all in order.
@@ -154,4 +150,128 @@ fn first_bad_count(words: &[u32], stride: usize, packets: usize, least: u32, mos
         packet += 1;
     };
     at
+}
+
+// The fault of packets that do not all pass: Type; Complete, Begin, Continue and End in one walk; Count; Group; Stream.
+fn find_fault(
+    words: &[u32],
+    stride: usize,
+    packets: usize,
+    kind: u32,
+    least: u32,
+    most: u32,
+    modulus: u32,
+) -> Fault
+    requires { ⌜ (Inside stride packets (now words)) × (0 < packets) × (0 < modulus) ⌝ }
+    ensures { λ r. ⌜ ((shape : Shape) → Shaped shape stride kind least most modulus → (checkPackets shape (now (words .entry)) packets ≡ pass → ⊥) → faultOf r ≡ checkPackets shape (now (words .entry)) packets) ⌝ }
+{
+    let foreign = first_other(words, stride, packets, 28, 16, kind);
+    if foreign < packets {
+        return Fault {
+            refusal: Refusal::Type,
+            place: stride * foreign,
+        };
+    }
+    let step = first_out_of_step(words, stride, packets);
+    if step < packets {
+        return Fault {
+            refusal: status_refusal(packets, step),
+            place: stride * step,
+        };
+    }
+    let count = first_bad_count(words, stride, packets, least, most);
+    if count < packets {
+        return Fault {
+            refusal: Refusal::Count,
+            place: stride * count,
+        };
+    }
+    let first = words[0];
+    let group = first_other(words, stride, packets, 24, 16, first / 0x100_0000 % 16);
+    if group < packets {
+        return Fault {
+            refusal: Refusal::Group,
+            place: stride * group,
+        };
+    }
+    Fault {
+        refusal: Refusal::Stream,
+        place: stride * first_other(words, stride, packets, 8, modulus, first / 256 % modulus),
+    }
+}
+
+// The payload size of packets that are all in order, in one pass.
+fn in_order(
+    words: &[u32],
+    stride: usize,
+    packets: usize,
+    kind: u32,
+    least: u32,
+    most: u32,
+    modulus: u32,
+) -> Total
+    requires { ⌜ (Inside stride packets (now words)) × (0 < packets) × (kind < 16) × (0 < modulus) ⌝ }
+    ensures { λ r. ⌜ ((shape : Shape) → Shaped shape stride kind least most modulus → InOrder shape (now (words .entry)) packets r) ⌝ }
+{
+    let first = words[0];
+    let head = kind * 16 + first / 0x100_0000 % 16;
+    let id = first / 256 % modulus;
+    let mut size: usize = 0;
+    let mut packet = 0;
+    while packet < packets {
+        let word = words[stride * packet];
+        if word / 0x100_0000 != head {
+            return Total::Fault;
+        }
+        if word / 0x10_0000 % 16 != status_for(packets, packet) {
+            return Total::Fault;
+        }
+        if word / 256 % modulus != id {
+            return Total::Fault;
+        }
+        let count = word / 0x1_0000 % 16;
+        if count < least {
+            return Total::Fault;
+        }
+        if most < count {
+            return Total::Fault;
+        }
+        size += (count - least) as usize;
+        packet += 1;
+    }
+    Total::Size(size)
+}
+
+// The payload size of a message of this shape, or its refusal.
+pub(crate) fn scan_message(
+    words: &[u32],
+    length: usize,
+    stride: usize,
+    kind: u32,
+    least: u32,
+    most: u32,
+    modulus: u32,
+) -> Scan
+    requires { ⌜ (0 < stride) × (kind < 16) × (0 < modulus) ⌝ }
+    ensures { λ r. ⌜ ((shape : Shape) → Shaped shape stride kind least most modulus → scanMeaning r ≡ scanOf shape (now (words .entry)) length) ⌝ }
+{
+    let bounds = count_packets(words.len(), length, stride);
+    match bounds {
+        Bounds::Refused(refusal) => Scan::Refused(Fault { refusal, place: 0 }),
+        Bounds::Packets(packets) => {
+            let total = in_order(words, stride, packets, kind, least, most, modulus);
+            match total {
+                Total::Size(size) => Scan::Size(size),
+                Total::Fault => Scan::Refused(find_fault(
+                    words,
+                    stride,
+                    packets,
+                    kind,
+                    least,
+                    most,
+                    modulus,
+                )),
+            }
+        }
+    }
 }

@@ -121,3 +121,9 @@ module _ {f : ℕ → Bool} {n : ℕ} where
 
   pub passed-here : {i : ℕ} → Passed f n i → i < n → f i ≡ true → i ≡ first f n
   passed-here {i} h l e = sym (first-is f n i (h .within) (h .none) (λ k. e))
+
+-- two tests that agree below n have one first
+pub first-cong : (f g : ℕ → Bool) (n : ℕ) → ((i : ℕ) → i < n → f i ≡ g i) → first f n ≡ first g n
+unfolding first
+first-cong f g zero h = refl
+first-cong f g (suc n) h = rw (first-cong f g n (λ i k. h i (omega arith)), h n (omega arith))

@@ -1,22 +1,22 @@
 -- The cases of the definitions that reading a packet cites, over plain values. Assumes nothing.
 use mathlib.Core.Path.{_≡_, refl, sym, ap, _∙_}
-use mathlib.Core.Bool.{Bool, true, false, cond, not, _&&_, _||_, and-true}
+use mathlib.Core.Bool.{Bool, true, false, cond, not, _&&_, and-true}
 use mathlib.Core.List.{List, [], _∷_}
-use Prim.Native.Nat.{ℕ, suc, _+_, _-_, _*_, _/_, _%_, _^_, _≤_, _<_}
+use Prim.Native.Nat.{ℕ, _+_, _-_, _*_, _/_, _%_, _^_, _≤_, _<_}
 use native.Mathlib.Omega.{arith}
 use lib.Dec.{eqb, ltb, leb}
 use lib.ListN.{length, getD}
 use lib.Pow.{recompose, mod-pow-add}
 use mir.Syntax.{w32}
 use mir.Val.{Fits}
-use borrow.Author.Tests.{eq-eqb, ne-eqb, lt-ltb, le-ltb, le-leb, lt-leb, ltb-false, leb-true, eqb-true, eqb-false}
-use Rattle.refusal.specs.Answer.{Answer, gives, refused, Verdict, _▷_, guard}
-use Rattle.refusal.proofs.Laws.{never-both, never-refused}
+use borrow.Author.Tests.{eq-eqb, ne-eqb, lt-ltb, le-ltb, le-leb, ltb-false, leb-true, eqb-true, eqb-false}
+use Rattle.refusal.specs.Answer.{Answer, gives, refused, _▷_, guard}
+use Rattle.refusal.proofs.Laws.{never-refused}
 use Rattle.ump.specs.Word.{octet, word, octets}
 use Rattle.ump.specs.Packet.{Shape, sysex8, sysex7, header, typeAt, groupAt, statusAt, countAt, idAt, sizeOf, sizeAt}
 use Rattle.ump.specs.Check.{badType, badCount}
-use Rattle.ump.specs.Single.{Kind, Packet, kindOf, zeros, blank, unexpected, readPacket8, readPacket7, packetByte, setPacketGroup}
-use Rattle.packet.specs.Steps.{plain, outside, counted, decide8, payloadByte, putGroup}
+use Rattle.ump.specs.Single.{Kind, Packet, zeros, blank, unexpected, readPacket8, readPacket7, packetByte, setPacketGroup}
+use Rattle.packet.specs.Steps.{plain, counted, decide8, payloadByte, putGroup}
 
 -- ---- the count and the status
 
@@ -121,14 +121,17 @@ size-fits shape count = go (leb count (shape .room + shape .bias)) refl
     go true e = omega (arith, leb-true count (shape .room + shape .bias) e)
     go false e = omega arith
 
--- four checks that let a packet through
-passed : (a b c d : Bool) (k l m n : ℕ) {x y : Packet} → guard a k 0 ▷ guard b l 0 ▷ guard c m 0 ▷ guard d n 0 ▷ gives x ≡ gives y
-    → (a ≡ false) × (x ≡ y)
-passed true b c d k l m n e = never-refused e
-passed false true c d k l m n e = never-refused e
-passed false false true d k l m n e = never-refused e
-passed false false false true k l m n e = never-refused e
-passed false false false false k l m n e = (refl, cc)
+-- a packet that four checks let through has its words, and its size has room
+has : (shape : Shape) (words : List ℕ) (a b c d : Bool) (k l m n : ℕ) (kind : Kind) {packet : Packet} → ltb (length words) (shape .words) ≡ a
+    → guard a k 0 ▷ guard b l 0 ▷ guard c m 0 ▷ guard d n 0 ▷ packetOf shape words (gives (kind, sizeAt shape words 0)) ≡ gives packet
+    → (shape .words ≤ length words) × (packet .size ≤ shape .room)
+has shape words true b c d k l m n kind h e = never-refused e
+has shape words false true c d k l m n kind h e = never-refused e
+has shape words false false true d k l m n kind h e = never-refused e
+has shape words false false false true k l m n kind h e = never-refused e
+has shape words false false false false k l m n kind {packet} h e =
+    let size : sizeAt shape words 0 ≡ packet .size = cc in
+    (ltb-false _ _ h, rw size at (size-fits shape (countAt shape words 0)))
 
 -- a reader: what it reads, by its decision, and what a packet that it read has
 pub record Reader : Type 0 where
@@ -148,12 +151,10 @@ reads8 words = rw packet-checks
 
 pub has8 : (words : List ℕ) {packet : Packet} → gives packet ≡ readPacket8 words → (4 ≤ length words) × (packet .size ≤ 13)
 unfolding readPacket8
-has8 words {packet} e =
+has8 words e =
     let status = statusAt sysex8 words 0 in
-    let count = countAt sysex8 words 0 in
-    let bad = badCount sysex8 words 0 && not (unexpected status count (blank words)) in
-    let h = passed (ltb (length words) 4) (badType sysex8 words 0) (ltb 3 status) bad 3 5 15 10 (sym e) in
-    (ltb-false _ _ (h .0), rw (ap (λ (p : Packet). p .size) (h .1)) at (size-fits sysex8 count))
+    let refuses = badCount sysex8 words 0 && not (unexpected status (countAt sysex8 words 0) (blank words)) in
+    has sysex8 words _ (badType sysex8 words 0) (ltb 3 status) refuses 3 5 15 10 _ refl (sym e)
 
 abbrev pub reader8 : Reader
 reader8 = record { shape = sysex8; read = readPacket8; decision = decision8; reads = reads8; has = has8 }
@@ -167,9 +168,7 @@ reads7 words = rw packet-checks
 
 pub has7 : (words : List ℕ) {packet : Packet} → gives packet ≡ readPacket7 words → (2 ≤ length words) × (packet .size ≤ 6)
 unfolding readPacket7
-has7 words {packet} e =
-    let h = passed (ltb (length words) 2) (badType sysex7 words 0) (badCount sysex7 words 0) (ltb 3 (statusAt sysex7 words 0)) 3 5 10 15 (sym e) in
-    (ltb-false _ _ (h .0), rw (ap (λ (p : Packet). p .size) (h .1)) at (size-fits sysex7 (countAt sysex7 words 0)))
+has7 words e = has sysex7 words _ (badType sysex7 words 0) (badCount sysex7 words 0) (ltb 3 (statusAt sysex7 words 0)) 3 5 10 15 _ refl (sym e)
 
 abbrev pub reader7 : Reader
 reader7 = record { shape = sysex7; read = readPacket7; decision = decision7; reads = reads7; has = has7 }
@@ -190,24 +189,25 @@ module _ (reader : Reader) (words : List ℕ) where
   unfolding framed badType
   ours e h k = rw e (rw (le-ltb _ _ h, eq-eqb _ _ k) at (reader .reads words))
 
--- ---- a byte of the packet, and its group
-
-module _ (shape : Shape) {read : Answer Packet} (words : List ℕ) (i : ℕ) where
-  pub byte-given : {packet : Packet} → gives packet ≡ read → payloadByte (header shape) (shape .limit) words (packet .size) i ≡ packetByte shape read words i
+  pub byte-given : (i : ℕ) {packet : Packet} → gives packet ≡ reader .read words
+      → payloadByte (header (reader .shape)) (reader .shape .limit) words (packet .size) i ≡ packetByte (reader .shape) (reader .read words) words i
   unfolding payloadByte packetByte
-  byte-given e =
-      let first : shape .words * 0 + (i + header shape) / 4 ≡ (i + header shape) / 4 = omega arith in
-      rw (← e, shape .limit-is, first)
+  byte-given i e =
+      let place = (i + header (reader .shape)) / 4 in
+      let first : reader .shape .words * 0 + place ≡ place = omega arith in
+      rw (← e, reader .shape .limit-is, first)
 
-  pub byte-refused : {number place : ℕ} → refused number place ≡ read → refused number place ≡ packetByte shape read words i
+  pub byte-refused : (i : ℕ) {number place : ℕ} → refused number place ≡ reader .read words
+      → refused number place ≡ packetByte (reader .shape) (reader .read words) words i
   unfolding packetByte
-  byte-refused e = rw (← e)
+  byte-refused i e = rw (← e)
 
-module _ {read : Answer Packet} (words : List ℕ) (group : ℕ) where
-  pub set-given : {packet : Packet} → gives packet ≡ read → putGroup words group ≡ setPacketGroup read words group
+  pub group-given : (group : ℕ) {packet : Packet} → gives packet ≡ reader .read words
+      → putGroup words group ≡ setPacketGroup (reader .read words) words group
   unfolding putGroup setPacketGroup
-  set-given e = rw (← e)
+  group-given group e = rw (← e)
 
-  pub set-refused : {number place : ℕ} → refused number place ≡ read → (refused number place, words) ≡ setPacketGroup read words group
+  pub group-refused : (group : ℕ) {number place : ℕ} → refused number place ≡ reader .read words
+      → (refused number place, words) ≡ setPacketGroup (reader .read words) words group
   unfolding setPacketGroup
-  set-refused e = rw (← e)
+  group-refused group e = rw (← e)

@@ -1,5 +1,5 @@
 -- Wrong answers that the promises shut out, two of each call. Assumes nothing.
-use mathlib.Core.Path.{_≡_, ap, subst, _∙_}
+use mathlib.Core.Path.{_≡_, ap, subst}
 use mathlib.Core.Bool.{not}
 use mathlib.Core.List.{List, [], _∷_}
 use Prim.Native.Nat.{ℕ, _+_}
@@ -9,13 +9,10 @@ use lib.Dec.{T, T-not, eqb, eqb-refl}
 use lib.ListN.{getD}
 use borrow.Fn.Kinds.{PK, RK, Out, Dens, resT, endedOf}
 use Rattle.refusal.specs.Answer.{Answer, gives, refused, Verdict}
-use Rattle.refusal.specs.declared.Fault.{Fault}
 use Rattle.refusal.specs.declared.Refusal.the-variants.{Status}
 use Rattle.refusal.specs.declared.ByteRead.the-variants.{Value}
-use Rattle.refusal.specs.declared.Stored.the-variants.{Done}
-use Rattle.refusal.proofs.Laws.{never-refused}
 use Rattle.ump.specs.Word.{octets}
-use Rattle.ump.specs.Packet.{sysex8, sysex7, sizeOf}
+use Rattle.ump.specs.Packet.{sizeOf}
 use Rattle.ump.specs.Check.{badType, badCount}
 use Rattle.ump.specs.Single.{Packet, blank, readPacket8, readPacket7, packetByte, setPacketGroup}
 use Rattle.ump.specs.Samples.{alone, message2}

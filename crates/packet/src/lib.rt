@@ -1,6 +1,5 @@
 // Single packets: reading one, a payload byte of it, setting its group; SysEx8 and SysEx7.
 ghost use mathlib.Core.Path.{_≡_};
-ghost use mathlib.Core.List.{List};
 ghost use Prim.Native.Nat.{_+_, _*_, _≤_, _<_};
 ghost use lib.ListN.{length};
 ghost use Rattle.refusal.specs.Meaning.{storedMeaning, byteMeaning};
@@ -15,13 +14,13 @@ use refusal::Stored;
 pub mod sysex7;
 pub mod sysex8;
 
-// What an unexpected end says of the data before it.
+// Whether the data before an unexpected end is valid.
 pub enum Earlier {
     Valid,
     Invalid,
 }
 
-// What a packet is.
+// What a packet is; an unexpected end is SysEx8's alone.
 pub enum Kind {
     Complete,
     Start,
@@ -36,7 +35,7 @@ pub(crate) enum Decided {
     Refused(Refusal),
 }
 
-// The kind that the status says, of a packet whose count is in range; Status above 3.
+// Status 0 complete, 1 start, 2 continue, 3 end, of a packet with a count in range; Status for the rest.
 pub(crate) fn kind_of(status: u32, size: usize) -> Decided
     ensures { λ r. ⌜ decidedMeaning r ≡ plain status size ⌝ }
 {
@@ -49,7 +48,7 @@ pub(crate) fn kind_of(status: u32, size: usize) -> Decided
     }
 }
 
-// Payload byte `index` of a packet: its octet stands `header` octets and `index` more into the words; Range from the payload size on.
+// Payload byte `index`, in octet (index + header) mod 4 of word (index + header) / 4 and below `limit`; Range for an index not below the size.
 pub(crate) fn payload_byte(
     words: &[u32],
     header: usize,
@@ -71,7 +70,7 @@ pub(crate) fn payload_byte(
     ByteRead::Value(((word >> ((3 - place % 4) * 8)) % limit) as u8)
 }
 
-// A first word with another group.
+// The word with the group in nibble 1.
 fn with_group(word: u32, group: u8) -> u32
     requires { ⌜ group ≤ 15 ⌝ }
     ensures { λ r. ⌜ r ≡ withGroup word group ⌝ }
@@ -79,7 +78,7 @@ fn with_group(word: u32, group: u8) -> u32
     word / 0x1000_0000 * 0x1000_0000 + group as u32 * 0x100_0000 + word % 0x100_0000
 }
 
-// Sets nibble 1 of the first word; Field above 15.
+// Sets the group in the first word; Field above 15.
 pub(crate) fn put_group(words: &mut [u32], group: u8) -> Stored
     requires { ⌜ 0 < length (now words) ⌝ }
     ensures { λ r. ⌜ (storedMeaning r, now (words .exit)) ≡ putGroup (now (words .entry)) group ⌝ }

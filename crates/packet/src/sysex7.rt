@@ -12,19 +12,20 @@ use refusal::Fault;
 use refusal::Refusal;
 use refusal::Stored;
 
-// What reading a packet gives: its kind, group and payload size.
+// What a packet says: kind, group and payload size.
 pub struct Packet {
     pub kind: Kind,
     pub group: u8,
     pub size: usize,
 }
 
+// The answer of reading a packet.
 pub enum PacketRead {
     Packet(Packet),
     Refused(Fault),
 }
 
-// A packet that is what its status says: the count is payload size, so 0 to 6.
+// What the status says: the count is payload size, so 0 to 6; Count for the rest, then Status.
 fn decide(status: u32, count: u32) -> Decided
     ensures { λ r. ⌜ decidedMeaning r ≡ counted sysex7 status count ⌝ }
 {
@@ -62,7 +63,7 @@ pub fn read_packet(words: &[u32]) -> PacketRead
     }
 }
 
-// Payload byte `index` of the packet; after the reader's refusals Range.
+// Payload byte `index` of the packet, its low seven bits: the reader's refusals, then Range.
 pub fn byte(words: &[u32], index: usize) -> ByteRead
     ensures { λ r. ⌜ byteMeaning r ≡ packetByte sysex7 (readPacket7 (now (words .entry))) (now (words .entry)) index ⌝ }
 {
@@ -73,7 +74,7 @@ pub fn byte(words: &[u32], index: usize) -> ByteRead
     }
 }
 
-// Sets the group of the packet; after the reader's refusals Field.
+// Sets the group of the packet: the reader's refusals, then Field.
 pub fn set_group(words: &mut [u32], group: u8) -> Stored
     ensures { λ r. ⌜ (storedMeaning r, now (words .exit)) ≡ setPacketGroup (readPacket7 (now (words .entry))) (now (words .entry)) group ⌝ }
 {

@@ -16,7 +16,7 @@ use refusal::Fault;
 use refusal::Refusal;
 use refusal::Stored;
 
-// What reading a packet gives: its kind, group, stream id and payload size.
+// What a packet says: kind, group, stream id and payload size.
 pub struct Packet {
     pub kind: Kind,
     pub group: u8,
@@ -24,6 +24,7 @@ pub struct Packet {
     pub size: usize,
 }
 
+// The answer of reading a packet.
 pub enum PacketRead {
     Packet(Packet),
     Refused(Fault),
@@ -46,7 +47,7 @@ fn is_blank(words: &[u32]) -> bool
     words[3] == 0
 }
 
-// A packet that is what its status says: the count is payload size plus one, so 1 to 14.
+// What the status says: the count is payload size plus one, so 1 to 14; Count for the rest.
 fn counted_kind(status: u32, count: u32) -> Decided
     ensures { λ r. ⌜ decidedMeaning r ≡ counted sysex8 status count ⌝ }
 {
@@ -56,7 +57,7 @@ fn counted_kind(status: u32, count: u32) -> Decided
     }
 }
 
-// An end packet whose octet 3 and words 1 to 3 are zero.
+// An end packet of zeros: unexpected at count 1, earlier data valid, and at count 15, invalid; Count for the rest.
 fn blank_end(count: u32) -> Decided
     ensures { λ r. ⌜ decidedMeaning r ≡ decide8 3 count true ⌝ }
 {
@@ -68,7 +69,7 @@ fn blank_end(count: u32) -> Decided
     }
 }
 
-// The status nibble and the zero octets decide the kind.
+// The status nibble and the zero octets decide the kind; Status, then Count.
 fn decide(status: u32, count: u32, blank: bool) -> Decided
     ensures { λ r. ⌜ decidedMeaning r ≡ decide8 status count blank ⌝ }
 {
@@ -114,7 +115,7 @@ pub fn read_packet(words: &[u32]) -> PacketRead
     }
 }
 
-// Payload byte `index` of the packet; after the reader's refusals Range.
+// Payload byte `index` of the packet: the reader's refusals, then Range.
 pub fn byte(words: &[u32], index: usize) -> ByteRead
     ensures { λ r. ⌜ byteMeaning r ≡ packetByte sysex8 (readPacket8 (now (words .entry))) (now (words .entry)) index ⌝ }
 {
@@ -125,7 +126,7 @@ pub fn byte(words: &[u32], index: usize) -> ByteRead
     }
 }
 
-// Sets the group of the packet; after the reader's refusals Field.
+// Sets the group of the packet: the reader's refusals, then Field.
 pub fn set_group(words: &mut [u32], group: u8) -> Stored
     ensures { λ r. ⌜ (storedMeaning r, now (words .exit)) ≡ setPacketGroup (readPacket8 (now (words .entry))) (now (words .entry)) group ⌝ }
 {

@@ -1,9 +1,7 @@
 -- `packet::sysex8::byte`: a byte of the packet that was read, or the reader's refusal. Assumes nothing.
 use borrow.Author.Needs.{needs}
-use mathlib.Core.Path.{sym, ap, _∙_}
+use mathlib.Core.Path.{_∙_}
 use native.Mathlib.Omega.{arith}
-use Rattle.ump.specs.Packet.{sysex8}
-use Rattle.packet.specs.Meaning.{packetMeaning8}
 use Rattle.packet.proofs.Laws.{reader8, byte-given, byte-refused}
 use Rattle.packet.proofs.sysex8.byte.Statement.{statement}
 use Rattle.packet.proofs.sysex8.byte.Tie as tie
@@ -17,12 +15,12 @@ payload-byte-requires c κs =
 returns : tie.Need-returns
 returns c =
     let r = c .before .before in
-    c .payload-byte .ensures ∙ byte-given sysex8 _ _ (rw (r .read .given .1) at (r .before .before .read-packet .ensures))
+    c .payload-byte .ensures ∙ byte-given reader8 _ _ (rw (r .read .given .1) at (r .before .before .read-packet .ensures))
 
 returns-2 : tie.Need-returns-2
 returns-2 c =
     let r = c .before in
-    byte-refused sysex8 _ _ (rw (r .read2 .given .1) at (r .before .before .read-packet .ensures))
+    byte-refused reader8 _ _ (rw (r .read2 .given .1) at (r .before .before .read-packet .ensures))
 
 pub byte-spec : {M : Type 1} → statement M
 byte-spec =

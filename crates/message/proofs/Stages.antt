@@ -1,6 +1,6 @@
 -- The stages of the check, by the numbers of a shape: what the loops find is what the definition asks for. Assumes nothing.
 use mathlib.Core.Path.{_≡_, refl, sym, ap, ap₂, _∙_}
-use mathlib.Core.Bool.{Bool, true, false, not, _&&_, _||_}
+use mathlib.Core.Bool.{Bool, true, false, not, _&&_, _||_, and-true}
 use mathlib.Core.List.{List, [], _∷_}
 use Prim.Native.Nat.{ℕ, zero, suc, _+_, _*_, _/_, _%_, _^_, _≤_, _<_}
 use native.Mathlib.Nat.{mul-zero, mod-one}
@@ -15,10 +15,6 @@ use Rattle.ump.specs.Packing.{statusFor}
 use Rattle.ump.specs.Check.{first, badType, badStatus, badCount, badGroup, badId, same, statusNumber, sweep, checkPackets}
 use Rattle.ump.proofs.First.{first-cong}
 use Rattle.message.specs.Scan.{otherAt, outOfStep, countOut, IdModulus, no-id, one-id, Shaped}
-
-and-true : (b : Bool) → (b && true) ≡ b
-and-true true = refl
-and-true false = refl
 
 -- ids of one octet, or of none, compared by a remainder
 same-id : {ids modulus : ℕ} → IdModulus ids modulus → (x y : ℕ)

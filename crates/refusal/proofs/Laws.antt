@@ -68,3 +68,13 @@ byte-once (byte.Value a) (byte.Value b) e = ap byte.Value (cc)
 byte-once (byte.Value a) (byte.Refused g) e = never-both e
 byte-once (byte.Refused f) (byte.Value b) e = never-refused e
 byte-once (byte.Refused f) (byte.Refused g) e = ap byte.Refused (fault-once f g e)
+
+-- ---- a value after a check
+
+pub given-passes : {A : Type 0} (v : Verdict) {a b : A} → v ▷ gives a ≡ gives b → (v ≡ pass) × (a ≡ b)
+given-passes (gives u) e = (refl, cc)
+given-passes (refused n p) e = never-refused e
+
+pub refused-by : {A : Type 0} (v : Verdict) (a : A) {n p : ℕ} → v ▷ gives a ≡ refused n p → v ≡ refused n p
+refused-by (gives u) a e = never-both e
+refused-by (refused m q) a e = cc

@@ -3,7 +3,7 @@
 use mathlib.Core.Path.{_≡_}
 use mathlib.Core.Bool.{Bool, not, _||_}
 use mathlib.Core.List.{List}
-use Prim.Native.Nat.{ℕ, _+_, _*_, _/_, _%_, _^_, _≤_, _<_}
+use Prim.Native.Nat.{ℕ, suc, _+_, _-_, _*_, _/_, _%_, _^_, _≤_, _<_}
 use lib.Dec.{eqb, ltb}
 use lib.ListN.{length, getD}
 use Rattle.refusal.specs.Answer.{Answer, gives, refused, pass, _▷_, guard}
@@ -12,7 +12,8 @@ use Rattle.refusal.specs.Meaning.{faultOf}
 use Rattle.ump.specs.Word.{nibble}
 use Rattle.ump.specs.Packet.{Shape, payload}
 use Rattle.ump.specs.Packing.{statusFor}
-use Rattle.ump.specs.Check.{check, checkPackets, payloadOf}
+use Rattle.ump.specs.Check.{first, check, checkPackets, payloadOf}
+use Rattle.ump.specs.Edits.{total}
 use Rattle.message.specs.declared.scan.Bounds as bounds
 use Rattle.message.specs.declared.scan.Total as total
 use Rattle.message.specs.declared.scan.Scan as scan
@@ -73,3 +74,18 @@ pub record Shaped (shape : Shape) (stride type least most modulus : ℕ) : Type 
 abbrev pub InOrder : Shape → List ℕ → ℕ → total.Total → Type 0
 InOrder shape words n (total.the-variants.Size size) = (checkPackets shape words n ≡ pass) × (size ≡ length (payload shape words n))
 InOrder shape words n total.the-variants.Fault = checkPackets shape words n ≡ pass → ⊥
+
+-- ---- payload sizes by the numbers of a shape
+
+-- the counts of n packets are in range
+abbrev pub Counted : ℕ → ℕ → ℕ → ℕ → List ℕ → Type 0
+Counted stride n least most words = (p : ℕ) → p < n → (least ≤ nibble (getD words (stride * p) 0) 3) × (nibble (getD words (stride * p) 0) 3 ≤ most)
+
+-- the payload size of n packets
+unfoldable pub sizeTo : ℕ → ℕ → List ℕ → ℕ → ℕ
+sizeTo stride least words n = total (λ p. nibble (getD words (stride * p) 0) 3 - least) n
+
+-- byte b of packet p, of n, is payload byte i
+pub record Found (stride least : ℕ) (words : List ℕ) (n i p b : ℕ) : Type 0 where
+  pub packet-is : p ≡ first (λ q. ltb i (sizeTo stride least words (suc q))) n
+  pub byte-is : i ≡ sizeTo stride least words p + b

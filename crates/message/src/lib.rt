@@ -1,4 +1,5 @@
 // Messages in lent words: the check, payload bytes, and the setters; SysEx8 and SysEx7.
+mod bytes;
 mod scan;
 pub mod sysex7;
 pub mod sysex8;

@@ -1,0 +1,244 @@
+-- What the setters do: a payload byte, the group, or the stream id is set, and nothing else of the message changes.
+-- Assumes nothing.
+use mathlib.Core.Path.{_≡_, refl, sym, ap, _∙_, subst}
+use mathlib.Core.Bool.{Bool, true, false}
+use mathlib.Core.Logic.{_≢_}
+use mathlib.Core.List.{List, [], _∷_, _++_}
+use Prim.Native.Nat.{ℕ, zero, suc, _+_, _-_, _*_, _/_, _%_, _^_, _≤_, _<_}
+use native.Mathlib.Nat.{mul-suc, mul-le-mul-left, mul-div-right, mod-eq-of-lt, mul-add-mod-self-left, mul-mod-right}
+use native.Mathlib.Decide.{ℕ-discrete}
+use native.Mathlib.Omega.{arith}
+use lib.Dec.{ltb, leb}
+use lib.ListN.{length, getD, take, drop, set, length-append, length-set, length-drop, List·getD-append}
+use lib.Seq.{getD-take, getD-drop, take-set-le, drop-set-add, drop-set-lt, getD-set-other, getD-set-same, getD-append-add, ext-getD}
+use borrow.Author.Tests.{ltb-true, ltb-false, le-ltb, lt-leb}
+use Rattle.refusal.specs.Answer.{Answer, gives, pass, _▷_, guard, writes}
+use Rattle.ump.specs.Word.{nibbleField, octetField, shift, part, withPart, nibble, octet}
+use Rattle.ump.specs.Packet.{Shape, sysex8, header, firstWord, typeAt, groupAt, statusAt, countAt, idAt, sizeAt, packet, payloadAt, placeWord, placeOctet, byteAt, joined, payload}
+use Rattle.ump.specs.Check.{first, check, payloadOf, Summary, checked, Valid}
+use Rattle.ump.specs.Single.{withGroup}
+use Rattle.ump.specs.Setters.{packetOf, byteIn, storeByte, setByte, onHeads, setGroup, withId, setId}
+use Rattle.ump.proofs.Fields.{part-set, part-below, part-past}
+use Rattle.ump.proofs.Joined.{joined-cong, joined-around, joined-set}
+use Rattle.ump.proofs.Sizes.{words-pos, size-small}
+use Rattle.ump.proofs.First.{Side, under, over, side, first-le, first-at, first-before}
+use Rattle.ump.proofs.Checks.{passes-valid}
+use Rattle.ump.proofs.Message.{checked-valid}
+use Rattle.ump.proofs.Bytes.{length-payloadAt, getD-payloadAt}
+
+-- ---- one first word
+
+-- the stream id in it
+abbrev pub idIn : Shape → ℕ → List ℕ
+idIn shape x = take (shape .ids) (octet x 2 ∷ octet x 3 ∷ [])
+
+-- the first word x has become y: type, status and count stay, group and stream id are these
+pub record Headed (shape : Shape) (x y group : ℕ) (id : List ℕ) : Type 0 where
+  pub type-stays : nibble y 0 ≡ nibble x 0
+  pub group-is : nibble y 1 ≡ group
+  pub status-stays : nibble y 2 ≡ nibble x 2
+  pub count-stays : nibble y 3 ≡ nibble x 3
+  pub id-is : idIn shape y ≡ id
+
+-- and the payload bytes in it stay
+pub record Keeps (shape : Shape) (x y group : ℕ) (id : List ℕ) : Type 0 where
+  pub headed : Headed shape x y group id
+  pub bytes-stay : (q : ℕ) → header shape ≤ q → q < 4
+      → part y (shift octetField q) (shape .width) ≡ part x (shift octetField q) (shape .width)
+
+id-stays : (shape : Shape) (x y : ℕ) → ((q : ℕ) → 2 ≤ q → q < header shape → octet y q ≡ octet x q) → idIn shape y ≡ idIn shape x
+id-stays shape x y same = go (shape .ids) same
+  where
+    go : (ids : ℕ) → ((q : ℕ) → 2 ≤ q → q < 2 + ids → octet y q ≡ octet x q)
+        → take ids (octet y 2 ∷ octet y 3 ∷ []) ≡ take ids (octet x 2 ∷ octet x 3 ∷ [])
+    go zero h = refl
+    go (suc zero) h = rw (h 2 (omega arith) (omega arith))
+    go (suc (suc ids)) h = rw (h 2 (omega arith) (omega arith), h 3 (omega arith) (omega arith))
+
+unchanged : (shape : Shape) (x : ℕ) → Headed shape x x (nibble x 1) (idIn shape x)
+unchanged shape x = record { type-stays = refl; group-is = refl; status-stays = refl; count-stays = refl; id-is = refl }
+
+-- a payload byte in the first word is set: the header stays
+byte-headed : (shape : Shape) (x q value : ℕ) → header shape ≤ q → q < 4 → value < 2 ^ shape .width
+    → Headed shape x (withPart x (shift octetField q) (shape .width) value) (nibble x 1) (idIn shape x)
+byte-headed shape x q value from below fits =
+    record {
+      type-stays = stays 28 4 (omega arith);
+      group-is = stays 24 4 (omega arith);
+      status-stays = stays 20 4 (omega arith);
+      count-stays = stays 16 4 (omega arith);
+      id-is = id-stays shape x _ (λ o h k. stays (shift octetField o) 8 (omega (arith, shape .width-fits)));
+    }
+  where
+    stays : (at size : ℕ) → shift octetField q + 8 ≤ at
+        → part (withPart x (shift octetField q) (shape .width) value) at size ≡ part x at size
+    stays at size h = part-past x (shift octetField q) (shape .width) value fits at size (omega (arith, shape .width-fits))
+
+-- the group is set: all else of the first word stays
+pub group-keeps : (shape : Shape) (x group : ℕ) → group < 16 → Keeps shape x (withGroup x group) group (idIn shape x)
+group-keeps shape x group fits =
+    record {
+      headed = record {
+        type-stays = part-past x 24 4 group fits 28 4 (omega arith);
+        group-is = part-set x 24 4 group fits;
+        status-stays = lower 20 4 (omega arith);
+        count-stays = lower 16 4 (omega arith);
+        id-is = id-stays shape x _ (λ q h k. lower (shift octetField q) 8 (omega arith));
+      };
+      bytes-stay = λ q h k. lower (shift octetField q) (shape .width) (omega (arith, shape .width-fits));
+    }
+  where
+    lower : (at size : ℕ) → at + size ≤ 24 → part (withGroup x group) at size ≡ part x at size
+    lower at size h = part-below x 24 4 group fits at size h
+
+-- the stream id is set: all else of the first word stays, its payload byte too
+pub id-keeps : (x id : ℕ) → id < 256 → Keeps sysex8 x (withId x id) (nibble x 1) (id ∷ [])
+id-keeps x id fits =
+    record {
+      headed = record {
+        type-stays = upper 28 4 (omega arith);
+        group-is = upper 24 4 (omega arith);
+        status-stays = upper 20 4 (omega arith);
+        count-stays = upper 16 4 (omega arith);
+        id-is = ap (λ (o : ℕ). o ∷ []) (part-set x 8 8 id fits);
+      };
+      bytes-stay = λ q h k. part-below x 8 8 id fits (shift octetField q) 8 (omega arith);
+    }
+  where
+    upper : (at size : ℕ) → 16 ≤ at → part (withId x id) at size ≡ part x at size
+    upper at size h = part-past x 8 8 id fits at size h
+
+-- ---- places
+
+-- word j of a packet is the first of a packet only if j is 0
+first-of-packet : (w p j q : ℕ) → j < w → w * p + j ≡ w * q → j ≡ 0
+first-of-packet w p j q h e =
+    sym (mod-eq-of-lt h) ∙ sym (mul-add-mod-self-left w p j) ∙ ap (λ (k : ℕ). k % w) e ∙ mul-mod-right w q
+
+-- a packet ends where a later one begins, or before
+packet-ends : (shape : Shape) (p q : ℕ) → p < q → shape .words * p + shape .words ≤ shape .words * q
+packet-ends shape p q later = rw mul-suc at (mul-le-mul-left (shape .words) later)
+
+-- a payload byte stands inside its packet
+byte-inside : (shape : Shape) (i : ℕ) → i < shape .room → (i + header shape) / 4 < shape .words
+byte-inside shape i h = omega (arith, shape .full)
+
+-- the payload of a packet is the list of its bytes
+payloadAt-is : (shape : Shape) (words : List ℕ) (p : ℕ) → shape .words * p + shape .words ≤ length words → (bytes : List ℕ)
+    → length bytes ≡ sizeAt shape words p → ((k : ℕ) → k < sizeAt shape words p → byteAt shape words p k ≡ getD bytes k 0)
+    → payloadAt shape words p ≡ bytes
+payloadAt-is shape words p there bytes size same =
+    ext-getD 0 _ _ (length-payloadAt shape words p there ∙ sym size)
+    (λ k h.
+    let below : k < sizeAt shape words p = rw (length-payloadAt shape words p there) at h in
+    getD-payloadAt shape words p there k below ∙ same k below)
+
+-- ---- one payload byte is stored
+
+module _ (shape : Shape) (words : List ℕ) (p i value : ℕ) (there : shape .words * p + shape .words ≤ length words)
+    (inside : i < sizeAt shape words p) (fits : value < shape .limit) where
+  abbrev after : List ℕ
+  after = storeByte shape words p i value
+
+  abbrev at : ℕ
+  at = placeWord shape p i
+
+  in-room : i < shape .room
+  in-room = omega (arith, size-small shape (countAt shape words p))
+
+  at-inside : at < length words
+  at-inside = omega (arith, byte-inside shape i in-room)
+
+  value-fits : value < 2 ^ shape .width
+  value-fits = rw (shape .limit-is) fits
+
+  pub store-length : length after ≡ length words
+  unfolding storeByte
+  store-length = simp length-set
+
+  -- its word takes the value, in the low bits of its octet
+  pub stored : getD after at 0 ≡ withPart (getD words at 0) (shift octetField (placeOctet shape i)) (shape .width) value
+  unfolding storeByte
+  stored = getD-set-same words at _ 0 at-inside
+
+  -- every other word stays
+  pub store-elsewhere : (k : ℕ) → k ≢ at → getD after k 0 ≡ getD words k 0
+  unfolding storeByte
+  store-elsewhere k other = getD-set-other words at k _ 0 other
+
+  -- every packet keeps its type, group, status, count and stream id
+  pub store-headed : (q : ℕ)
+      → Headed shape (firstWord shape words q) (firstWord shape after q) (groupAt shape words q) (idAt shape words q)
+  store-headed q = go (ℕ-discrete (shape .words * q) at)
+    where
+      go : Dec (shape .words * q ≡ at)
+          → Headed shape (firstWord shape words q) (firstWord shape after q) (groupAt shape words q) (idAt shape words q)
+      go (no other) = rw (store-elsewhere (shape .words * q) other) (unchanged shape (firstWord shape words q))
+      go (yes e) =
+          let j : (i + header shape) / 4 ≡ 0 = first-of-packet (shape .words) p _ q (byte-inside shape i in-room) (sym e) in
+          rw (e, stored) (byte-headed shape (getD words at 0) (placeOctet shape i) value (omega arith) (omega arith) value-fits)
+
+  -- the stored byte reads as the value, every other byte of the packet as before
+  store-byte : byteAt shape after p i ≡ value
+  store-byte = rw stored (part-set (getD words at 0) (shift octetField (placeOctet shape i)) (shape .width) value value-fits)
+
+  store-other-byte : (k : ℕ) → k ≢ i → byteAt shape after p k ≡ byteAt shape words p k
+  store-other-byte k other = go (ℕ-discrete (placeWord shape p k) at)
+    where
+      apart : (placeOctet shape k) ≢ (placeOctet shape i) → Side (placeOctet shape k) (placeOctet shape i)
+          → part (getD after at 0) (shift octetField (placeOctet shape k)) (shape .width)
+          ≡ part (getD words at 0) (shift octetField (placeOctet shape k)) (shape .width)
+      apart d (under h e) =
+          rw stored (part-past (getD words at 0) _ (shape .width) value value-fits _ (shape .width) (omega (arith, shape .width-fits)))
+      apart d (over h e) =
+          rw stored (part-below (getD words at 0) _ (shape .width) value value-fits _ (shape .width) (omega (arith, shape .width-fits)))
+
+      go : Dec (placeWord shape p k ≡ at) → byteAt shape after p k ≡ byteAt shape words p k
+      go (no f) = ap (λ (x : ℕ). part x (shift octetField (placeOctet shape k)) (shape .width)) (store-elsewhere _ f)
+      go (yes e) =
+          let j : (k + header shape) / 4 ≡ (i + header shape) / 4 = omega arith in
+          rw e (apart (λ o. omega arith) (side (placeOctet shape k) (placeOctet shape i)))
+
+  size-after : sizeAt shape after p ≡ sizeAt shape words p
+  size-after = rw (store-headed p .count-stays)
+
+  -- byte i of the packet's payload is the value
+  pub store-payloadAt : payloadAt shape after p ≡ set (payloadAt shape words p) i value
+  store-payloadAt =
+      payloadAt-is shape after p (rw store-length there) _
+      (length-set (payloadAt shape words p) i value ∙ length-payloadAt shape words p there ∙ sym size-after)
+      (λ k h. go k (rw size-after at h) (ℕ-discrete k i))
+    where
+      go : (k : ℕ) → k < sizeAt shape words p → Dec (k ≡ i)
+          → byteAt shape after p k ≡ getD (set (payloadAt shape words p) i value) k 0
+      go k h (yes e) =
+          rw (e, getD-set-same (payloadAt shape words p) i value 0 (rw (length-payloadAt shape words p there) inside)) store-byte
+      go k h (no f) =
+          store-other-byte k f
+          ∙ sym (getD-set-other (payloadAt shape words p) i k value 0 f ∙ getD-payloadAt shape words p there k h)
+
+  -- every other packet stays, and carries what it did
+  pub store-other-packet : (q : ℕ) → q ≢ p → packet shape after q ≡ packet shape words q
+  unfolding storeByte
+  store-other-packet q other = go (side p q)
+    where
+      go : Side p q → packet shape after q ≡ packet shape words q
+      go (under h e) =
+          rw (drop-set-lt (shape .words * q) words at _ (omega (arith, packet-ends shape p q h, byte-inside shape i in-room)))
+      go (over h e) =
+          let ends = packet-ends shape q p (omega arith) in
+          let d : at ≡ shape .words * q + (at - shape .words * q) = omega arith in
+          rw (d, drop-set-add (shape .words * q) words (at - shape .words * q) _)
+          (take-set-le (shape .words) (drop (shape .words * q) words) _ _ (omega arith))
+
+  pub store-other-payloadAt : (q : ℕ) → q ≢ p → payloadAt shape after q ≡ payloadAt shape words q
+  unfolding payloadAt
+  store-other-payloadAt q other = rw (store-headed q .count-stays, store-other-packet q other)
+
+  -- of n packets, it is the byte at the sizes of the packets before it plus i
+  pub store-payload : (n : ℕ) → p < n
+      → payload shape after n ≡ set (payload shape words n) (length (payload shape words p) + i) value
+  unfolding payload
+  store-payload n h =
+      joined-set (payloadAt shape words) (payloadAt shape after) n p i value h (rw (length-payloadAt shape words p there) inside)
+      store-payloadAt store-other-payloadAt

@@ -242,3 +242,118 @@ module _ (shape : Shape) (words : List ℕ) (p i value : ℕ) (there : shape .wo
   store-payload n h =
       joined-set (payloadAt shape words) (payloadAt shape after) n p i value h (rw (length-payloadAt shape words p there) inside)
       store-payloadAt store-other-payloadAt
+
+-- ---- where byte i of a message stands
+
+-- n packets inside the words: each of them is
+inside-words : (shape : Shape) (words : List ℕ) (n p : ℕ) → shape .words * n ≤ length words → p < n
+    → shape .words * p + shape .words ≤ length words
+inside-words shape words n p whole below = omega (arith, packet-ends shape p n below)
+
+length-payload-suc : (shape : Shape) (words : List ℕ) (p : ℕ)
+    → length (payload shape words (suc p)) ≡ length (payload shape words p) + length (payloadAt shape words p)
+unfolding payload joined
+length-payload-suc shape words p = simp length-append
+
+module _ (shape : Shape) (words : List ℕ) (n i : ℕ) (inside : i < length (payload shape words n)) where
+  abbrev p : ℕ
+  p = packetOf shape words n i
+
+  abbrev b : ℕ
+  b = byteIn shape words n i
+
+  -- the packets before it do not reach the byte
+  not-before : (q : ℕ) → q ≤ p → length (payload shape words q) ≤ i
+  unfolding packetOf payload joined
+  not-before zero h = omega arith
+  not-before (suc q) h = ltb-false _ _ (first-before (λ p. ltb i (length (payload shape words (suc p)))) n q h)
+
+  -- it stands in a packet of the message
+  pub packetOf-below : packetOf shape words n i < n
+  packetOf-below = go (side p n)
+    where
+      go : Side p n → p < n
+      go (under h e) = h
+      go (over h e) = absurd (omega (arith, not-before n h))
+
+  not-after : i < length (payload shape words (suc p))
+  unfolding packetOf
+  not-after = ltb-true _ _ (first-at (λ p. ltb i (length (payload shape words (suc p)))) n packetOf-below)
+
+  -- behind the bytes of the packets before that one
+  pub place-is : i ≡ length (payload shape words (packetOf shape words n i)) + byteIn shape words n i
+  unfolding byteIn
+  place-is = omega (arith, not-before p (omega arith))
+
+  module _ (whole : shape .words * n ≤ length words) where
+    p-inside : shape .words * p + shape .words ≤ length words
+    p-inside = inside-words shape words n p whole packetOf-below
+
+    -- and is a byte of that packet
+    pub byteIn-below : byteIn shape words n i < sizeAt shape words (packetOf shape words n i)
+    byteIn-below = omega (arith, place-is, not-after, length-payload-suc shape words p, length-payloadAt shape words p p-inside)
+
+    -- what is read there is byte i of the message
+    pub getD-payload : getD (payload shape words n) i 0 ≡ byteAt shape words (packetOf shape words n i) (byteIn shape words n i)
+    unfolding payload
+    getD-payload =
+        let bytes = payloadAt shape words in
+        let rest = joined (λ q. bytes (suc p + q)) (n - suc p) in
+        ap (λ (k : ℕ). getD (joined bytes n) k 0) place-is
+        ∙ ap (λ (l : List ℕ). getD l (length (joined bytes p) + b) 0) (joined-around bytes n p packetOf-below)
+        ∙ getD-append-add (joined bytes p) (bytes p ++ rest) b 0
+        ∙ List·getD-append (bytes p) rest 0 b (rw (length-payloadAt shape words p p-inside) byteIn-below)
+        ∙ getD-payloadAt shape words p p-inside b byteIn-below
+
+    -- what is stored there is stored to byte i of the message
+    pub stored-payload : (value : ℕ) → value < shape .limit
+        → payload shape (storeByte shape words (packetOf shape words n i) (byteIn shape words n i) value) n
+        ≡ set (payload shape words n) i value
+    stored-payload value fits =
+        store-payload shape words p b value p-inside byteIn-below fits n packetOf-below
+        ∙ ap (λ (k : ℕ). set (payload shape words n) k value) (sym place-is)
+
+-- ---- the first word of each of n packets is changed
+
+module _ (shape : Shape) (f : ℕ → ℕ) (words : List ℕ) where
+  pub heads-length : (n : ℕ) → length (onHeads shape f words n) ≡ length words
+  unfolding onHeads
+  heads-length zero = refl
+  heads-length (suc n) = simp length-set (heads-length n)
+
+  -- every word that is not the first of one of them stays
+  pub heads-elsewhere : (n k : ℕ) → ((p : ℕ) → p < n → k ≢ shape .words * p) → getD (onHeads shape f words n) k 0 ≡ getD words k 0
+  unfolding onHeads
+  heads-elsewhere zero k other = refl
+  heads-elsewhere (suc n) k other =
+      getD-set-other (onHeads shape f words n) (shape .words * n) k (f (firstWord shape words n)) 0 (other n (omega arith))
+      ∙ heads-elsewhere n k (λ p h. other p (omega arith))
+
+  -- the first word of each of them is changed, once
+  pub heads-first : (n p : ℕ) → shape .words * n ≤ length words → p < n
+      → firstWord shape (onHeads shape f words n) p ≡ f (firstWord shape words p)
+  unfolding onHeads
+  heads-first zero p whole below = absurd (omega arith)
+  heads-first (suc n) p whole below = go (heads-first n p (omega arith)) (side p n)
+    where
+      go : (p < n → firstWord shape (onHeads shape f words n) p ≡ f (firstWord shape words p)) → Side p n
+          → firstWord shape (set (onHeads shape f words n) (shape .words * n) (f (firstWord shape words n))) p
+          ≡ f (firstWord shape words p)
+      go before (under h e) =
+          getD-set-other (onHeads shape f words n) (shape .words * n) (shape .words * p) (f (firstWord shape words n)) 0
+          (λ q. omega (arith, packet-ends shape p n h, words-pos shape))
+          ∙ before h
+      go before (over h e) =
+          let q : p ≡ n = omega arith in
+          rw q
+          (getD-set-same (onHeads shape f words n) (shape .words * n) (f (firstWord shape words n)) 0
+          (rw (heads-length n) (omega (arith, words-pos shape))))
+
+  -- what stands behind them stays, also where it looks like packets
+  pub heads-behind : (n : ℕ) → drop (shape .words * n) (onHeads shape f words n) ≡ drop (shape .words * n) words
+  heads-behind n =
+      ext-getD 0 _ _ (simp (length-drop, heads-length n))
+      (λ i h.
+      getD-drop (shape .words * n) (onHeads shape f words n) i 0
+      ∙ heads-elsewhere n (shape .words * n + i) (λ p k e. omega (arith, packet-ends shape p n k, words-pos shape))
+      ∙ sym (getD-drop (shape .words * n) words i 0))

@@ -108,6 +108,50 @@ id-keeps x id fits =
     upper : (at size : ℕ) → 16 ≤ at → part (withId x id) at size ≡ part x at size
     upper at size h = part-past x 8 8 id fits at size h
 
+-- ---- a valid message whose packets keep type, status and count
+
+packets-of : (shape : Shape) (words : List ℕ) (len : ℕ) (valid : Valid shape words len) → len / shape .words ≡ valid .packets
+packets-of shape words len valid = rw (valid .whole) (mul-div-right (valid .packets) (words-pos shape))
+
+-- its packets are inside the words
+message-inside : (shape : Shape) (words : List ℕ) (len : ℕ) → Valid shape words len
+    → shape .words * (len / shape .words) ≤ length words
+message-inside shape words len valid = rw (packets-of shape words len valid, ← (valid .whole)) (valid .inside)
+
+module _ (shape : Shape) (words after : List ℕ) (len : ℕ) (groups : ℕ → ℕ) (ids : ℕ → List ℕ) (valid : Valid shape words len)
+    (as-long : length after ≡ length words)
+    (headed : (p : ℕ) → p < len / shape .words → Headed shape (firstWord shape words p) (firstWord shape after p) (groups p) (ids p))
+    (one-group : (p : ℕ) → p < len / shape .words → groups p ≡ groups 0)
+    (one-id : (p : ℕ) → p < len / shape .words → ids p ≡ ids 0) where
+  headed-at : (p : ℕ) → p < valid .packets → Headed shape (firstWord shape words p) (firstWord shape after p) (groups 0) (ids 0)
+  headed-at p below =
+      let h : p < len / shape .words = rw (packets-of shape words len valid) below in
+      rw (← (one-group p h), ← (one-id p h)) (headed p h)
+
+  -- it stays valid, if they share one group and one stream id
+  valid-after : Valid shape after len
+  valid-after =
+      let first = headed-at 0 (valid .some-packet) in
+      record {
+        short-enough = rw as-long (valid .short-enough);
+        inside = rw as-long (valid .inside);
+        packets = valid .packets;
+        some-packet = valid .some-packet;
+        whole = valid .whole;
+        types = λ p h. headed-at p h .type-stays ∙ valid .types p h;
+        statuses = λ p h. headed-at p h .status-stays ∙ valid .statuses p h;
+        counts = λ p h. rw (headed-at p h .count-stays) (valid .counts p h);
+        groups = λ p h. headed-at p h .group-is ∙ sym (first .group-is);
+        one-id = λ p h. headed-at p h .id-is ∙ sym (first .id-is);
+      }
+
+  -- and the check answers that group and that id
+  checked-after : checked shape after len
+      ≡ gives (record { group = groups 0; id = ids 0; size = length (payloadOf shape after len); words = len })
+  checked-after =
+      let first = headed-at 0 (valid .some-packet) in
+      checked-valid shape after len valid-after ∙ rw (first .group-is, first .id-is)
+
 -- ---- places
 
 -- word j of a packet is the first of a packet only if j is 0
@@ -243,6 +287,28 @@ module _ (shape : Shape) (words : List ℕ) (p i value : ℕ) (there : shape .wo
       joined-set (payloadAt shape words) (payloadAt shape after) n p i value h (rw (length-payloadAt shape words p there) inside)
       store-payloadAt store-other-payloadAt
 
+  -- no payload changes its size
+  pub store-size : (n : ℕ) → length (payload shape after n) ≡ length (payload shape words n)
+  unfolding payload
+  store-size n = go (side p n)
+    where
+      go : Side p n → length (payload shape after n) ≡ length (payload shape words n)
+      go (under h e) = ap length (store-payload n h) ∙ simp length-set
+      go (over h e) = ap length (joined-cong _ _ n (λ q k. store-other-payloadAt q (omega arith)))
+
+  -- a valid message stays valid, of the same group, stream id and size
+  module _ (len : ℕ) (valid : Valid shape words len) where
+    pub store-valid : Valid shape after len
+    store-valid =
+        valid-after shape words after len (groupAt shape words) (idAt shape words) valid store-length (λ q h. store-headed q)
+        (λ q h. valid .groups q (rw (packets-of shape words len valid) at h))
+        (λ q h. valid .one-id q (rw (packets-of shape words len valid) at h))
+
+    pub store-checked : checked shape after len ≡ checked shape words len
+    store-checked = checked-valid shape after len store-valid
+        ∙ rw (store-headed 0 .group-is, store-headed 0 .id-is, store-size (len / shape .words))
+        (sym (checked-valid shape words len valid))
+
 -- ---- where byte i of a message stands
 
 -- n packets inside the words: each of them is
@@ -330,24 +396,23 @@ module _ (shape : Shape) (f : ℕ → ℕ) (words : List ℕ) where
       ∙ heads-elsewhere n k (λ p h. other p (omega arith))
 
   -- the first word of each of them is changed, once
-  pub heads-first : (n p : ℕ) → shape .words * n ≤ length words → p < n
+  pub heads-first : (n p : ℕ) → p < n → shape .words * p < length words
       → firstWord shape (onHeads shape f words n) p ≡ f (firstWord shape words p)
   unfolding onHeads
-  heads-first zero p whole below = absurd (omega arith)
-  heads-first (suc n) p whole below = go (heads-first n p (omega arith)) (side p n)
+  heads-first zero p below there = absurd (omega arith)
+  heads-first (suc n) p below there = go (side p n) (λ h. heads-first n p h there)
     where
-      go : (p < n → firstWord shape (onHeads shape f words n) p ≡ f (firstWord shape words p)) → Side p n
+      go : Side p n → (p < n → firstWord shape (onHeads shape f words n) p ≡ f (firstWord shape words p))
           → firstWord shape (set (onHeads shape f words n) (shape .words * n) (f (firstWord shape words n))) p
           ≡ f (firstWord shape words p)
-      go before (under h e) =
+      go (under h e) earlier =
           getD-set-other (onHeads shape f words n) (shape .words * n) (shape .words * p) (f (firstWord shape words n)) 0
           (λ q. omega (arith, packet-ends shape p n h, words-pos shape))
-          ∙ before h
-      go before (over h e) =
-          let q : p ≡ n = omega arith in
+          ∙ earlier h
+      go (over h e) earlier =
+          let q : n ≡ p = omega arith in
           rw q
-          (getD-set-same (onHeads shape f words n) (shape .words * n) (f (firstWord shape words n)) 0
-          (rw (heads-length n) (omega (arith, words-pos shape))))
+          (getD-set-same (onHeads shape f words p) (shape .words * p) (f (firstWord shape words p)) 0 (rw (heads-length p) there))
 
   -- what stands behind them stays, also where it looks like packets
   pub heads-behind : (n : ℕ) → drop (shape .words * n) (onHeads shape f words n) ≡ drop (shape .words * n) words
@@ -357,3 +422,77 @@ module _ (shape : Shape) (f : ℕ → ℕ) (words : List ℕ) where
       getD-drop (shape .words * n) (onHeads shape f words n) i 0
       ∙ heads-elsewhere n (shape .words * n + i) (λ p k e. omega (arith, packet-ends shape p n k, words-pos shape))
       ∙ sym (getD-drop (shape .words * n) words i 0))
+
+-- n packets after such a change: group and stream id are these, all else stays
+pub record Changed (shape : Shape) (words after : List ℕ) (n : ℕ) (groups : ℕ → ℕ) (ids : ℕ → List ℕ) : Type 0 where
+  pub as-long : length after ≡ length words
+  pub headed : (p : ℕ) → p < n → Headed shape (firstWord shape words p) (firstWord shape after p) (groups p) (ids p)
+  pub bytes-stay : (p i : ℕ) → p < n → i < shape .room → byteAt shape after p i ≡ byteAt shape words p i
+  pub payloads-stay : (p : ℕ) → p < n → payloadAt shape after p ≡ payloadAt shape words p
+  pub payload-stays : payload shape after n ≡ payload shape words n
+  pub behind-stays : drop (shape .words * n) after ≡ drop (shape .words * n) words
+
+module _ (shape : Shape) (f group : ℕ → ℕ) (id : ℕ → List ℕ) (keeps : (x : ℕ) → Keeps shape x (f x) (group x) (id x))
+    (words : List ℕ) (n : ℕ) (whole : shape .words * n ≤ length words) where
+  abbrev changed : List ℕ
+  changed = onHeads shape f words n
+
+  first-word : (p : ℕ) → p < n → firstWord shape changed p ≡ f (firstWord shape words p)
+  first-word p below = heads-first shape f words n p below (omega (arith, inside-words shape words n p whole below, words-pos shape))
+
+  heads-headed : (p : ℕ) → p < n
+      → Headed shape (firstWord shape words p) (firstWord shape changed p) (group (firstWord shape words p)) (id (firstWord shape words p))
+  heads-headed p below = rw (first-word p below) (keeps (firstWord shape words p) .headed)
+
+  heads-bytes : (p i : ℕ) → p < n → i < shape .room → byteAt shape changed p i ≡ byteAt shape words p i
+  heads-bytes p i below room = go (ℕ-discrete ((i + header shape) / 4) 0)
+    where
+      go : Dec ((i + header shape) / 4 ≡ 0) → byteAt shape changed p i ≡ byteAt shape words p i
+      go (yes j) =
+          let e : placeWord shape p i ≡ shape .words * p = omega arith in
+          rw (e, first-word p below) (keeps (firstWord shape words p) .bytes-stay (placeOctet shape i) (omega arith) (omega arith))
+      go (no j) =
+          ap (λ (x : ℕ). part x (shift octetField (placeOctet shape i)) (shape .width))
+          (heads-elsewhere shape f words n (placeWord shape p i)
+          (λ q h e. j (first-of-packet (shape .words) p _ q (byte-inside shape i room) e)))
+
+  heads-payloadAt : (p : ℕ) → p < n → payloadAt shape changed p ≡ payloadAt shape words p
+  heads-payloadAt p below =
+      let there = inside-words shape words n p whole below in
+      let size : sizeAt shape changed p ≡ sizeAt shape words p = rw (heads-headed p below .count-stays) in
+      payloadAt-is shape changed p (rw (heads-length shape f words n) there) _
+      (length-payloadAt shape words p there ∙ sym size)
+      (λ i h.
+      let k : i < sizeAt shape words p = rw size at h in
+      heads-bytes p i below (omega (arith, size-small shape (countAt shape words p)))
+      ∙ sym (getD-payloadAt shape words p there i k))
+
+  -- one law for any change of first words that keeps type, status, count and payload bytes
+  heads-changed : Changed shape words changed n (λ p. group (firstWord shape words p)) (λ p. id (firstWord shape words p))
+  unfolding payload
+  heads-changed =
+      record {
+        as-long = heads-length shape f words n;
+        headed = heads-headed;
+        bytes-stay = heads-bytes;
+        payloads-stay = heads-payloadAt;
+        payload-stays = joined-cong _ _ n heads-payloadAt;
+        behind-stays = heads-behind shape f words n;
+      }
+
+-- the group is set: every packet has it, all else stays
+pub group-set : (shape : Shape) (words : List ℕ) (n group : ℕ) → shape .words * n ≤ length words → group < 16
+    → Changed shape words (onHeads shape (λ x. withGroup x group) words n) n (λ p. group) (idAt shape words)
+group-set shape words n group whole fits =
+    heads-changed shape (λ x. withGroup x group) (λ x. group) (idIn shape) (λ x. group-keeps shape x group fits) words n whole
+
+-- the stream id is set: every packet has it, all else stays
+pub id-set : (words : List ℕ) (n id : ℕ) → sysex8 .words * n ≤ length words → id < 256
+    → Changed sysex8 words (onHeads sysex8 (λ x. withId x id) words n) n (groupAt sysex8 words) (λ p. id ∷ [])
+id-set words n id whole fits =
+    heads-changed sysex8 (λ x. withId x id) (λ x. nibble x 1) (λ x. id ∷ []) (λ x. id-keeps x id fits) words n whole
+
+-- setting the stream id touches no payload byte
+pub id-keeps-payload : (words : List ℕ) (n id : ℕ) → sysex8 .words * n ≤ length words → id < 256
+    → payload sysex8 (onHeads sysex8 (λ x. withId x id) words n) n ≡ payload sysex8 words n
+id-keeps-payload words n id whole fits = id-set words n id whole fits .payload-stays

@@ -14,7 +14,7 @@ use borrow.Author.Tests.{ltb-true, ltb-false, lt-ltb, le-ltb, lt-leb}
 use Rattle.refusal.specs.Answer.{gives, Verdict, pass}
 use Rattle.ump.specs.Word.{nibbleField, octetField, shift, part, withPart, nibble, octet}
 use Rattle.ump.specs.Packet.{Shape, sysex8, header, firstWord, groupAt, countAt, idAt, sizeAt, packet, payloadAt, placeWord, placeOctet, byteAt, joined, payload}
-use Rattle.ump.specs.Check.{first, check, payloadOf, Summary, checked, Valid}
+use Rattle.ump.specs.Check.{check, payloadOf, Summary, checked, Valid}
 use Rattle.ump.specs.Single.{withGroup}
 use Rattle.ump.specs.Setters.{packetOf, byteIn, storeByte, setByte, onHeads, setGroup, withId, setId}
 use Rattle.ump.proofs.Fields.{part-set, part-below, part-past}

@@ -1,1 +1,4 @@
 mod Cursors
+pub mod Laws
+pub mod Unique
+pub mod ShutOut

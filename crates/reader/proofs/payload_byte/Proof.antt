@@ -1,7 +1,7 @@
 -- `reader::payload_byte` meets its contract: a walk of its MIR, by hand. `new` makes the reader, its local is lent by `&mut` to `nth` for a lifetime ν ∷ κ that is made for the call, within the words' κ, and is taken back when that ends. All that the proof knows of `new` and `nth` is that they meet their contracts.
 -- The token of κ is cut in two: one half is met with ν's (`borrow.Within.Token`), and the other goes with it.
 -- Assumes nothing.
-use mathlib.Core.Path.{_≡_, refl, ap, _∙_}
+use mathlib.Core.Path.{_≡_, refl, _∙_}
 use Prim.Native.Nat.{ℕ, _<_, _^_}
 use mathlib.Core.List.{List, [], _∷_}
 use lib.Dec.{T as Holds}
@@ -32,7 +32,7 @@ use denote.Memory.{mem, cellAt, partOf}
 use denote.Plain.{uint-makes, uint-vals, uint-tells}
 use denote.Builtin.{u32, usize}
 use denote.Ref.{RefT, NamedLft, MutRef, now}
-use denote.Signature.{plain, namedLft}
+use denote.Signature.{plain}
 use denote.Slice.{sliceVal, ShrSlice, slice-vals, shr-slice-tells, shr-slice-lawful, shr-slice-copy}
 use denote.Steps.{owned, peeks, heard, nothing}
 use denote.Enum.Laws as EL
@@ -57,7 +57,7 @@ use Rattle.reader.proofs.PayloadReader as T
 use Rattle.reader.proofs.PayloadReader.Laws as T′
 use Rattle.reader.proofs.Cursor as K
 use Rattle.reader.proofs.Cursor.Laws as K′
-use Rattle.reader.proofs.Cursors.{Fit, typed-fits, is-cursor}
+use Rattle.reader.proofs.Cursors.{typed-fits, is-cursor}
 use Rattle.reader.proofs.Step as S
 use Rattle.reader.proofs.Step.Laws as S′
 use Rattle.reader.proofs.PayloadReader.new as new

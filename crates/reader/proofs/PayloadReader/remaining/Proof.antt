@@ -2,7 +2,7 @@
 -- The struct is Copy: what it owns is had twice, one copy is kept whole for the exit, and of the other what words owns goes to the callee, beside the lifetime's token, which comes back.
 -- Assumes nothing.
 use mathlib.Core.Path.{_≡_, refl}
-use Prim.Native.Nat.{ℕ, _<_, _^_}
+use Prim.Native.Nat.{ℕ}
 use mathlib.Core.List.{[], _∷_}
 use lib.Dec.{T as Holds}
 use lib.ListN.{length}
@@ -51,6 +51,7 @@ use Rattle.reader.proofs.PayloadReader as T
 use Rattle.reader.proofs.PayloadReader.Laws as T′
 use Rattle.reader.proofs.Cursor as K
 use Rattle.reader.proofs.Cursor.Laws as K′
+use Rattle.reader.proofs.Cursors.{Fit, typed-fits, is-cursor}
 use Rattle.reader.proofs.remaining as count
 use Rattle.reader.proofs.remaining.Symbol as count-def
 use Rattle.reader.proofs.remaining.Symbol.{name as #reader·count}
@@ -76,7 +77,7 @@ module _ {M : Type 1} (𝓤 : URA M) (H : Heap 𝓤) (A : Atoms 𝓤) (W : Given
   abbrev mach : Val
   mach = T′.lowered d
 
-  -- the machine value of src
+  -- the machine value of words
   abbrev v : Val
   v = sliceVal (d .words .ptr) (length (d .words .now))
 
@@ -112,20 +113,14 @@ module _ {M : Type 1} (𝓤 : URA M) (H : Heap 𝓤) (A : Atoms 𝓤) (W : Given
   asked : ent 𝓤 (onEntry 𝓤 H A count.signature (κ, tt) (q, tt) (d .words, (c, tt)) passed) (Count 𝓤 H A mem run .pre to)
   asked = qed W ((‵ (flft κ q) ⊛ ‵ ftrue) ∷ ‵ (owns (ShrSlice (named 0) κ u32 ∷ K.the-row ∷ []) (d .words, (c, tt)) passed) ∷ []) ∵ join ! $ frame ! $ done !
 
-  abbrev CFits : Type 0
-  CFits = (d .packet < 2 ^ 64) × ((d .byte < 2 ^ 64) × (d .remaining < 2 ^ 64))
-
-  is-cursor : CFits → Is K.the-row c (K′.lowered c ∷ [])
-  is-cursor f = LL.owes K.the-type K′.the-laws c ((refl, f .0), ((refl, f .1 .0), ((refl, f .1 .1), tt)))
-
   -- what the struct owns gives what the callee asks, and is kept
-  apart : CFits → ent 𝓤 (onEntry 𝓤 H A rem.signature (κ, tt) (q, tt) (d, tt) (mach ∷ [], tt)) (sep 𝓤 (Count 𝓤 H A mem run .pre to) (sem 𝓤 H A Own))
+  apart : Fit c → ent 𝓤 (onEntry 𝓤 H A rem.signature (κ, tt) (q, tt) (d, tt) (mach ∷ [], tt)) (sep 𝓤 (Count 𝓤 H A mem run .pre to) (sem 𝓤 H A Own))
   apart fits =
       qed W ((‵ (flft κ q) ⊛ ‵ ftrue) ∷ ‵ (owns (B (κ, tt) ∷ []) (d, tt) (mach ∷ [], tt)) ∷ []) ∵
       move ! (1 ∷ []) $ fsplit ! $ move ! (1 ∷ []) $ drop ! $ use1 W (‵ Own ⊛ ‵ Own) (LL.copy D (T′.the-copy (namedLft 1 0 tt (κ, tt))) 𝓤 H A W .twice d (mach ∷ [])) $ split ! $
       use1 W (given (mach ∷ [] ≡ mach ∷ []) (‵ (all-own (D .parts) L vd))) (own-open 𝓤 H A W D L vd mach) $ learn ! (λ _. use1 W (‵ (ownAt (D .parts) L 0 (d .words)) ⊛ ‵ (rest (D .parts) L 0 vd)) (own-out 𝓤 H A W (D .parts) L 0 vd) $ split ! $
       -- [what words owns; what the numbers own; what the struct owns; the token]
-      move ! (1 ∷ []) $ drop ! $ nothing ! $ owned ! K.the-row (Is K.the-row) (LL.makes K.the-type K′.the-plain 𝓤 H A) c _ (is-cursor fits) $ fjoin ! $ move ! (1 ∷ 0 ∷ []) $ fjoin ! $
+      move ! (1 ∷ []) $ drop ! $ nothing ! $ owned ! K.the-row (Is K.the-row) (LL.makes K.the-type K′.the-plain 𝓤 H A) c _ (is-cursor c fits) $ fjoin ! $ move ! (1 ∷ 0 ∷ []) $ fjoin ! $
       move ! (2 ∷ 0 ∷ []) $ use2 W (raw (Count 𝓤 H A mem run .pre to)) asked $ frame ! $ done !)
 
   -- of the callee's `ensured`, the clause alone: it has no `&mut`, so what is said of last values is dropped
@@ -148,7 +143,7 @@ module _ {M : Type 1} (𝓤 : URA M) (H : Heap 𝓤) (A : Atoms 𝓤) (W : Given
         assigns ! (of-opd ! (load ! (from ! (fld ! refl (stop !))) (look-in ! 10 (sub ! 2 refl (whole !))))) (from ! (stop !)) (init ! 4 refl (tt, wt .1 .1 .1 .0)) $
         assigns ! (of-opd ! (load ! (from ! (fld ! refl (stop !))) (look-in ! 10 (sub ! 3 refl (whole !))))) (from ! (stop !)) (init ! 2 refl (tt, wt .1 .1 .1 .1 .0)) $
         assigns ! (agg ! (and-then ! (load ! (from ! (stop !)) (look ! 6 refl)) (and-then ! (load ! (from ! (stop !)) (look ! 4 refl)) (and-then ! (load ! (from ! (stop !)) (look ! 2 refl)) (no-more !))))) (from ! (stop !)) (init ! 0 refl (tt, (wt .1 .1 .0, (wt .1 .1 .1 .0, (wt .1 .1 .1 .1 .0, tt))))) $
-        move ! (14 ∷ []) $ use1 W (raw (Count 𝓤 H A mem run .pre to) ⊛ ‵ Own) (apart (wt .1 .1 .0 .fits, (wt .1 .1 .1 .0 .fits, wt .1 .1 .1 .1 .0 .fits))) $ split ! $
+        move ! (14 ∷ []) $ use1 W (raw (Count 𝓤 H A mem run .pre to) ⊛ ‵ Own) (apart (typed-fits c (wt .1 .1))) $ split ! $
         calls-at ! fm (Count 𝓤 H A mem run) known to (and-then ! (load ! (from ! (stop !)) (look ! 10 refl)) (and-then ! (load ! (from ! (stop !)) (look ! 2 refl)) (no-more !))) (λ u.
         use1 W (later (some (λ (r : ℕ). ((‵ (flft κ q) ⊛ ‵ ftrue) ⊛ ‵ (usize .own r (u ∷ []))) ⊛ raw (ensured 𝓤 H A count.ended (count.clauses 𝓤 H A mem run) (κ, tt) (d .words, (c, tt)) tt r)))) (id⊢ 𝓤 _) $ await ! tt $ pick ! (λ r.
         split ! $ move ! (1 ∷ []) $ use1 W (raw (fact 𝓤 (r ≡ found))) (said r) $ heard ! (r ≡ found) (λ e. split ! $ move ! (1 ∷ []) $

@@ -1,4 +1,4 @@
-mod Cursors
+mod Parts
 pub mod Laws
 pub mod Unique
 pub mod ShutOut

@@ -57,7 +57,7 @@ use Rattle.reader.proofs.PayloadReader as T
 use Rattle.reader.proofs.PayloadReader.Laws as T′
 use Rattle.reader.proofs.Cursor as K
 use Rattle.reader.proofs.Cursor.Laws as K′
-use Rattle.reader.proofs.Cursors.{typed-fits, is-cursor}
+use Rattle.reader.proofs.Parts.{typed-fits, is-cursor}
 use Rattle.reader.proofs.Step as S
 use Rattle.reader.proofs.Step.Laws as S′
 use Rattle.reader.proofs.PayloadReader.new as new

@@ -32,13 +32,14 @@ pub struct Read {
 fn size(word: u32) -> usize
     ensures { λ r. ⌜ r ≡ sizeOf sysex8 (nibble word 3) ⌝ }
 {
-    match word / 65536 % 16 {
-        1..=14 => (word / 65536 % 16 - 1) as usize,
+    let count = word / 65536 % 16;
+    match count {
+        1..=14 => (count - 1) as usize,
         _ => 0,
     }
 }
 
-// How many bytes of a packet stand from a byte on.
+// How many bytes of a packet stand from a byte on: none where the byte is at or past the packet's size.
 fn standing(words: &[u32], packet: usize, byte: usize) -> usize
     requires { ⌜ packet < length (now words) / 4 ⌝ }
     ensures { λ r. ⌜ r ≡ sizeAt sysex8 (now (words .entry)) packet - byte ⌝ }
@@ -63,7 +64,7 @@ fn byte_at(words: &[u32], packet: usize, byte: usize) -> u8
     octet(words[4 * packet + (byte + 3) / 4], (byte + 3) % 4)
 }
 
-// Skips so many bytes, and reads one.
+// Skip-then-read. Empty packets are passed, words short of a packet are ignored, and after the end it answers ended for ever.
 pub fn nth(words: &[u32], cursor: Cursor, skip: usize) -> Read
     ensures { λ r. ⌜ readMeaning r ≡ nthOf sysex8 (now (words .entry)) (cursorMeaning cursor) skip ⌝ }
 {
@@ -101,7 +102,7 @@ pub fn nth(words: &[u32], cursor: Cursor, skip: usize) -> Read
     }
 }
 
-// Reads the next byte.
+// The next byte, or the end.
 pub fn next(words: &[u32], cursor: Cursor) -> Read
     ensures { λ r. ⌜ readMeaning r ≡ nthOf sysex8 (now (words .entry)) (cursorMeaning cursor) 0 ⌝ }
 {
@@ -150,7 +151,7 @@ impl<'a> PayloadReader<'a> {
         }
     }
 
-    // Skips so many bytes, and reads one.
+    // Skip-then-read; the reader is moved on.
     pub fn nth(&mut self, skip: usize) -> Step
         ensures { λ s. ⌜ (stepMeaning s, now (self .exit)) ≡ readOn (now (self .entry)) skip ⌝ }
     {
@@ -166,7 +167,7 @@ impl<'a> PayloadReader<'a> {
         read.step
     }
 
-    // Reads the next byte.
+    // The next byte, or the end; the reader is moved on.
     pub fn next(&mut self) -> Step
         ensures { λ s. ⌜ (stepMeaning s, now (self .exit)) ≡ readOn (now (self .entry)) 0 ⌝ }
     {
@@ -188,7 +189,7 @@ impl<'a> PayloadReader<'a> {
     }
 }
 
-// Skips so many bytes and reads one, through a reader made over the words at the cursor.
+// Skip-then-read by a reader made over the words at the cursor: who calls this needs no reader.
 pub fn payload_byte(words: &[u32], cursor: Cursor, skip: usize) -> Step
     ensures { λ s. ⌜ stepMeaning s ≡ nthOf sysex8 (now (words .entry)) (cursorMeaning cursor) skip .step ⌝ }
 {

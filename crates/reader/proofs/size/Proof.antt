@@ -12,7 +12,6 @@ size-spec =
     tie.close
     (tie.spec
     (λ c. search needs)
-    (λ c. search needs)
     (λ c. omega (arith, size-of-count sysex8 (c .before .before .args .word / 65536 % 16) (omega arith)))
     (λ c. omega (arith, size-of-count sysex8 (c .before .args .word / 65536 % 16) (omega arith)))
     (λ c. omega (arith, size-too-big sysex8 (c .before .before .args .word / 65536 % 16) (omega arith))))

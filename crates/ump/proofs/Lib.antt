@@ -14,3 +14,4 @@ pub mod Bytes
 pub mod Positions
 pub mod NotEmpty
 pub mod Setting
+pub mod Reading

@@ -1,0 +1,16 @@
+-- What the code's cursors and answers mean, in the definitions of the payload reader. Assumes nothing.
+use Rattle.ump.specs.Reader as paper
+use Rattle.reader.specs.declared.Cursor.{Cursor}
+use Rattle.reader.specs.declared.Step.{Step}
+use Rattle.reader.specs.declared.Step.the-variants.{Byte, Ended}
+use Rattle.reader.specs.declared.Read.{Read}
+
+abbrev pub cursorMeaning : Cursor → paper.Cursor
+cursorMeaning cursor = record { packet = cursor .packet; byte = cursor .byte; remaining = cursor .remaining }
+
+abbrev pub stepMeaning : Step → paper.Step
+stepMeaning (Byte value) = paper.byte value
+stepMeaning Ended = paper.ended
+
+abbrev pub readMeaning : Read → paper.Read
+readMeaning read = record { step = stepMeaning (read .step); cursor = cursorMeaning (read .cursor) }

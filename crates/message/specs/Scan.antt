@@ -1,7 +1,7 @@
 -- What the steps of the check answer.
 -- Assumes nothing.
 use mathlib.Core.Path.{_≡_}
-use mathlib.Core.Bool.{Bool, not, _||_}
+use mathlib.Core.Bool.{Bool, not, cond, _||_}
 use mathlib.Core.List.{List}
 use Prim.Native.Nat.{ℕ, suc, _+_, _-_, _*_, _/_, _%_, _^_, _≤_, _<_}
 use lib.Dec.{eqb, ltb}
@@ -14,6 +14,8 @@ use Rattle.ump.specs.Packet.{Shape, payload}
 use Rattle.ump.specs.Packing.{statusFor}
 use Rattle.ump.specs.Check.{first, check, checkPackets, payloadOf}
 use Rattle.ump.specs.Edits.{total}
+use Rattle.ump.specs.Single.{withGroup}
+use Rattle.ump.specs.Setters.{withId}
 use Rattle.message.specs.declared.scan.Bounds as bounds
 use Rattle.message.specs.declared.scan.Total as total
 use Rattle.message.specs.declared.scan.Scan as scan
@@ -89,3 +91,7 @@ sizeTo stride least words n = total (λ p. nibble (getD words (stride * p) 0) 3 
 pub record Found (stride least : ℕ) (words : List ℕ) (n i p b : ℕ) : Type 0 where
   pub packet-is : p ≡ first (λ q. ltb i (sizeTo stride least words (suc q))) n
   pub byte-is : i ≡ sizeTo stride least words p + b
+
+-- a first word with another stream id, or with another group
+abbrev pub headWith : ℕ → Bool → ℕ → ℕ
+headWith value stream x = cond stream (withId x value) (withGroup x value)

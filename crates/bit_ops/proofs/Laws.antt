@@ -8,7 +8,9 @@ use native.Mathlib.Omega.{arith}
 use lib.Dec.{eqb}
 use lib.Pow.{pow-pos, pow-lt, split, shr-shr, shr-mod, ones-split, high-ones, ones-lt, shl-exact}
 use lib.Bits.{bitAnd, bitOr, and-block, or-block, and-high, and-mask, or-shifted, or-zero-r}
-use Rattle.refusal.proofs.Laws.{never-both, never-refused, fault-once}
+use Rattle.refusal.specs.Answer.{Answer, gives, refused}
+use Rattle.refusal.proofs.Laws.{faultBack, fault-back}
+use Rattle.refusal.proofs.Tight.{once}
 use Rattle.ump.specs.Word.{withPart}
 use Rattle.bit_ops.specs.Meaning.{bitNumber, bitMeaning, wordMeaning, setMeaning}
 use Rattle.bit_ops.specs.declared.BitRead.{BitRead}
@@ -88,26 +90,37 @@ bit-tested zero h = refl
 bit-tested (suc zero) h = refl
 bit-tested (suc (suc n)) h = absurd (omega arith)
 
-bit-number-once : (a b : Bool) → bitNumber a ≡ bitNumber b → a ≡ b
-bit-number-once true true e = refl
-bit-number-once false false e = refl
-bit-number-once true false e = absurd (omega arith)
-bit-number-once false true e = absurd (omega arith)
+abbrev bitBack : Answer ℕ → BitRead
+bitBack (gives zero) = bit.Value false
+bitBack (gives (suc n)) = bit.Value true
+bitBack (refused number place) = bit.Refused (faultBack number place)
+
+bit-back : (x : BitRead) → bitBack (bitMeaning x) ≡ x
+bit-back (bit.Value true) = refl
+bit-back (bit.Value false) = refl
+bit-back (bit.Refused fault) = ap bit.Refused (fault-back fault)
 
 pub bit-once : (x y : BitRead) → bitMeaning x ≡ bitMeaning y → x ≡ y
-bit-once (bit.Value a) (bit.Value b) e = ap bit.Value (bit-number-once a b (cc))
-bit-once (bit.Value a) (bit.Refused g) e = never-both e
-bit-once (bit.Refused f) (bit.Value b) e = never-refused e
-bit-once (bit.Refused f) (bit.Refused g) e = ap bit.Refused (fault-once f g e)
+bit-once = once bitMeaning bitBack bit-back
+
+abbrev wordBack : Answer ℕ → WordRead
+wordBack (gives value) = word.Value value
+wordBack (refused number place) = word.Refused (faultBack number place)
+
+word-back : (x : WordRead) → wordBack (wordMeaning x) ≡ x
+word-back (word.Value value) = refl
+word-back (word.Refused fault) = ap word.Refused (fault-back fault)
 
 pub word-once : (x y : WordRead) → wordMeaning x ≡ wordMeaning y → x ≡ y
-word-once (word.Value a) (word.Value b) e = ap word.Value (cc)
-word-once (word.Value a) (word.Refused g) e = never-both e
-word-once (word.Refused f) (word.Value b) e = never-refused e
-word-once (word.Refused f) (word.Refused g) e = ap word.Refused (fault-once f g e)
+word-once = once wordMeaning wordBack word-back
+
+abbrev setBack : Answer ℕ → FieldSet
+setBack (gives value) = set.Word value
+setBack (refused number place) = set.Refused (faultBack number place)
+
+set-back : (x : FieldSet) → setBack (setMeaning x) ≡ x
+set-back (set.Word value) = refl
+set-back (set.Refused fault) = ap set.Refused (fault-back fault)
 
 pub set-once : (x y : FieldSet) → setMeaning x ≡ setMeaning y → x ≡ y
-set-once (set.Word a) (set.Word b) e = ap set.Word (cc)
-set-once (set.Word a) (set.Refused g) e = never-both e
-set-once (set.Refused f) (set.Word b) e = never-refused e
-set-once (set.Refused f) (set.Refused g) e = ap set.Refused (fault-once f g e)
+set-once = once setMeaning setBack set-back

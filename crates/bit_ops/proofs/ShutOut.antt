@@ -1,11 +1,11 @@
 -- Wrong answers that the promises shut out, each on a concrete input. Assumes nothing.
-use mathlib.Core.Path.{_≡_, refl, ap}
-use mathlib.Core.Bool.{true, false}
-use Prim.Native.Nat.{ℕ, _+_, _*_}
-use lib.Dec.{eqb}
-use borrow.Author.Tests.{eqb-false}
+use mathlib.Core.Path.{_≡_}
+use mathlib.Core.Bool.{true, not}
+use Prim.Native.Nat.{ℕ}
+use lib.Dec.{T, eqb}
 use contract.Lifetimes.{Lfts}
-use Rattle.refusal.specs.Answer.{Answer, gives, refused}
+use Rattle.refusal.specs.Answer.{Answer}
+use Rattle.refusal.proofs.Tight.{differ, told}
 use Rattle.refusal.specs.declared.Fault.{Fault}
 use Rattle.refusal.specs.declared.Refusal.the-variants.{Range, Field}
 use Rattle.refusal.specs.declared.ByteRead.the-variants as byte-read
@@ -30,13 +30,9 @@ use Rattle.bit_ops.proofs.set_word.Reads as set-word
 abbrev Shuts : {A X : Type 0} {S : Lfts 0 → Type 0} → ((κs : Lfts 0) → A → X → S κs → Type 0) → A → X → Type 0
 Shuts {S = S} P a x = (κs : Lfts 0) (s : S κs) → P κs a x s → ⊥
 
--- a number that tells answers apart
-abbrev code : Answer ℕ → ℕ
-code (gives value) = 2 * value
-code (refused number place) = 2 * (32 * place + number) + 1
-
-differ : {x y : Answer ℕ} → x ≡ y → eqb (code x) (code y) ≡ false → ⊥
-differ {x} {y} e unequal = eqb-false (code x) (code y) unequal (ap code e)
+-- two answers differ by their value or refusal
+wrong : {x y : Answer ℕ} → T (not (eqb (told (λ v. v) x) (told (λ v. v) y))) → x ≡ y → ⊥
+wrong t e = differ (told (λ v. v)) t e
 
 abbrev sample : ℕ
 sample = 0x12345679
@@ -77,28 +73,28 @@ record ShutOut : Type 0 where
 shut-out : ShutOut
 unfolding getField setField
 shut-out = record {
-  bit-low = λ κs s p. differ p refl;
-  bit-past = λ κs s p. differ p refl;
-  set-bit-low = λ κs s p. differ p refl;
-  set-bit-past = λ κs s p. differ p refl;
-  crumb-low = λ κs s p. differ p refl;
-  crumb-refused = λ κs s p. differ p refl;
-  set-crumb-next = λ κs s p. differ p refl;
-  set-crumb-cut = λ κs s p. differ p refl;
-  nibble-low = λ κs s p. differ p refl;
-  nibble-number = λ κs s p. differ p refl;
-  set-nibble-next = λ κs s p. differ p refl;
-  set-nibble-cut = λ κs s p. differ p refl;
-  septet-octet = λ κs s p. differ p refl;
-  septet-place = λ κs s p. differ p refl;
-  set-septet-top = λ κs s p. differ p refl;
-  set-septet-big = λ κs s p. differ p refl;
-  octet-low = λ κs s p. differ p refl;
-  octet-past = λ κs s p. differ p refl;
-  set-octet-low = λ κs s p. differ p refl;
-  set-octet-refused = λ κs s p. differ p refl;
-  word-low = λ κs s p. differ p refl;
-  word-refused = λ κs s p. differ p refl;
-  set-word-other = λ κs s p. differ p refl;
-  set-word-past = λ κs s p. differ p refl;
+  bit-low = λ κs s p. wrong tt p;
+  bit-past = λ κs s p. wrong tt p;
+  set-bit-low = λ κs s p. wrong tt p;
+  set-bit-past = λ κs s p. wrong tt p;
+  crumb-low = λ κs s p. wrong tt p;
+  crumb-refused = λ κs s p. wrong tt p;
+  set-crumb-next = λ κs s p. wrong tt p;
+  set-crumb-cut = λ κs s p. wrong tt p;
+  nibble-low = λ κs s p. wrong tt p;
+  nibble-number = λ κs s p. wrong tt p;
+  set-nibble-next = λ κs s p. wrong tt p;
+  set-nibble-cut = λ κs s p. wrong tt p;
+  septet-octet = λ κs s p. wrong tt p;
+  septet-place = λ κs s p. wrong tt p;
+  set-septet-top = λ κs s p. wrong tt p;
+  set-septet-big = λ κs s p. wrong tt p;
+  octet-low = λ κs s p. wrong tt p;
+  octet-past = λ κs s p. wrong tt p;
+  set-octet-low = λ κs s p. wrong tt p;
+  set-octet-refused = λ κs s p. wrong tt p;
+  word-low = λ κs s p. wrong tt p;
+  word-refused = λ κs s p. wrong tt p;
+  set-word-other = λ κs s p. wrong tt p;
+  set-word-past = λ κs s p. wrong tt p;
 }

@@ -1,10 +1,11 @@
 -- An answer is fixed by what it means: each meaning has a way back. Assumes nothing.
-use mathlib.Core.Path.{_≡_, refl, sym, ap, _∙_}
+use mathlib.Core.Path.{_≡_, refl, ap}
 use mathlib.Core.Bool.{true, false}
 use lib.ListN.{getD}
 use Rattle.refusal.specs.Answer.{Answer, gives, refused}
 use Rattle.refusal.specs.Number.{nameOf}
 use Rattle.refusal.proofs.Laws.{name-of-number}
+use Rattle.refusal.proofs.Tight.{once}
 use Rattle.ump.specs.Single as ump
 use Rattle.packet.specs.Meaning.{kindMeaning, packetMeaning8, packetMeaning7}
 use Rattle.packet.specs.declared.Earlier.the-variants.{Valid, Invalid}
@@ -14,9 +15,6 @@ use Rattle.packet.specs.declared.sysex8.PacketRead as read8
 use Rattle.packet.specs.declared.sysex8.PacketRead.the-variants as read8v
 use Rattle.packet.specs.declared.sysex7.PacketRead as read7
 use Rattle.packet.specs.declared.sysex7.PacketRead.the-variants as read7v
-
-once : {A B : Type 0} (means : A → B) (back : B → A) → ((x : A) → back (means x) ≡ x) → (x y : A) → means x ≡ means y → x ≡ y
-once means back is x y e = sym (is x) ∙ ap back e ∙ is y
 
 abbrev kindBack : ump.Kind → Kind
 kindBack ump.complete = Complete

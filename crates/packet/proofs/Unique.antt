@@ -1,10 +1,8 @@
 -- Any two outcomes that a promise allows are equal: the answer, and all lent words after a call that writes. Assumes nothing.
-use mathlib.Core.Path.{_≡_, sym, ap, _∙_}
-use contract.Lifetimes.{Lfts}
-use denote.Triple.Clauses.{AtExit}
-use borrow.Fn.Kinds.{Out, Dens, resT, endedOf}
+use mathlib.Core.Path.{_≡_, sym, _∙_}
+use Rattle.refusal.specs.Meaning.{storedMeaning}
 use Rattle.refusal.proofs.Laws.{stored-once, byte-once}
-use Rattle.refusal.proofs.Tight.{FixesResult}
+use Rattle.refusal.proofs.Tight.{FixesResult, FixesOutcome, both-fixed}
 use Rattle.packet.proofs.Once.{packet8-once, packet7-once}
 use Rattle.packet.proofs.sysex8.read_packet.Kinds as read8-kinds
 use Rattle.packet.proofs.sysex8.read_packet.Reads as read8
@@ -29,14 +27,8 @@ byte8-unique κs a x y s t p q = byte-once x y (p ∙ sym q)
 byte7-unique : FixesResult 1 byte-kinds.ps byte-kinds.r byte7.Post
 byte7-unique κs a x y s t p q = byte-once x y (p ∙ sym q)
 
--- of a call that writes the words lent: the answer and the words are fixed
-abbrev FixesWords : Out 1 set-kinds.ps set-kinds.r → Type 0
-FixesWords P =
-    (κs : Lfts 1) (a : Dens κs set-kinds.ps) (x y : resT set-kinds.r κs .Denot) (s t : AtExit (endedOf 1 set-kinds.ps set-kinds.r) κs)
-    → P κs a x s → P κs a y t → (x ≡ y) × (s .0 .now ≡ t .0 .now)
+set8-unique : FixesOutcome 1 set-kinds.ps set-kinds.r set8.Post (λ κs s. s .0 .now)
+set8-unique κs a x y s t p q = both-fixed storedMeaning stored-once p q
 
-set8-unique : FixesWords set8.Post
-set8-unique κs a x y s t p q = (stored-once x y (ap (λ o. o .0) (p ∙ sym q)), ap (λ o. o .1) (p ∙ sym q))
-
-set7-unique : FixesWords set7.Post
-set7-unique κs a x y s t p q = (stored-once x y (ap (λ o. o .0) (p ∙ sym q)), ap (λ o. o .1) (p ∙ sym q))
+set7-unique : FixesOutcome 1 set-kinds.ps set-kinds.r set7.Post (λ κs s. s .0 .now)
+set7-unique κs a x y s t p q = both-fixed storedMeaning stored-once p q

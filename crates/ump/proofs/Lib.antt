@@ -13,3 +13,4 @@ pub mod Moving
 pub mod Bytes
 pub mod Positions
 pub mod NotEmpty
+pub mod Streaming

@@ -104,7 +104,7 @@ fn head_octets(group: u8, packets: usize, packet: usize, count: usize) -> u16
     (0x30 + group as u16) * 0x100 + status_for(packets, packet) as u16 * 0x10 + count as u16
 }
 
-// The data byte at a position; an unused octet is zero.
+// The data byte at a position; past the data an unused octet, zero.
 fn take_byte(inner: &[u8], at: usize) -> Taken
     ensures { λ r. ⌜ Took 1 (onward (now (inner .entry)) at) (r .octets) (onward (now (inner .entry)) (r .next)) ⌝ }
 {
@@ -121,7 +121,7 @@ fn take_byte(inner: &[u8], at: usize) -> Taken
     }
 }
 
-// Two data bytes.
+// Two data bytes from a position on.
 fn take_two(inner: &[u8], at: usize) -> Taken
     ensures { λ r. ⌜ Took 2 (onward (now (inner .entry)) at) (r .octets) (onward (now (inner .entry)) (r .next)) ⌝ }
 {
@@ -133,7 +133,7 @@ fn take_two(inner: &[u8], at: usize) -> Taken
     }
 }
 
-// Four data bytes.
+// Four data bytes from a position on.
 fn take_four(inner: &[u8], at: usize) -> Taken
     ensures { λ r. ⌜ Took 4 (onward (now (inner .entry)) at) (r .octets) (onward (now (inner .entry)) (r .next)) ⌝ }
 {
@@ -145,7 +145,7 @@ fn take_four(inner: &[u8], at: usize) -> Taken
     }
 }
 
-// Writes the packets: type 3 and group, status and count, six bytes; words past them stay.
+// Writes the packets: six data bytes each, only the last fewer; words past them stay.
 fn write_packets(inner: &[u8], group: u8, packets: usize, words: &mut [u32])
     requires { ⌜ (group ≤ 15) × (packets ≡ packetsFor sysex7 (length (now inner))) × (2 * packets ≤ length (now words)) ⌝ }
     ensures { λ _. ⌜ now (words .exit) ≡ pack sysex7 group [] (now (inner .entry)) ++ drop (2 * packets) (now (words .entry)) ⌝ }
@@ -166,7 +166,7 @@ fn write_packets(inner: &[u8], group: u8, packets: usize, words: &mut [u32])
     }
 }
 
-// F0, data, F7 and a group become SysEx7 packets; refuses in the order Long, Field, Frame, Byte, Room.
+// F0, data, F7 and a group become SysEx7 packets in the words lent; answers the words written. Refuses in the order Long, Field, Frame, Byte, Room.
 pub fn to_sysex7(bytes: &[u8], group: u8, words: &mut [u32]) -> Written
     ensures { λ r. ⌜ (writtenMeaning r, now (words .exit)) ≡ toSysex7 (now (bytes .entry)) group (now (words .entry)) ⌝ }
 {

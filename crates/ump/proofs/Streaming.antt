@@ -86,7 +86,8 @@ stream-tells bytes group words n e = go _ _ _ _ _ _ refl refl refl refl refl e
 
 -- ---- a valid message that carries the data
 
--- the words lent, after: the fewest-packet form of the data, and behind it what stood there; a valid message, whatever stands behind
+-- the words lent, after a call that writes n of them: the fewest-packet form of the data, then what stood there; those n are a valid
+-- message that carries the data, whatever stands behind them
 pub record Streamed (bytes : List ℕ) (group : ℕ) (words : List ℕ) (n : ℕ) (after : List ℕ) : Type 0 where
   pub fewest : take n after ≡ pack sysex7 group [] (between bytes)
   pub stays : drop n after ≡ drop n words

@@ -1,14 +1,13 @@
 -- Wrong outcomes that the promise shuts out. Assumes nothing.
-use mathlib.Core.Path.{_≡_, ap, subst}
-use mathlib.Core.Bool.{not}
+use mathlib.Core.Path.{_≡_}
 use mathlib.Core.List.{List, [], _∷_}
-use Prim.Native.Nat.{ℕ, _+_, _*_}
+use Prim.Native.Nat.{ℕ}
 use contract.Lifetimes.{Lfts}
 use denote.Triple.Clauses.{AtExit}
-use lib.Dec.{T, T-not, eqb, eqb-refl}
 use lib.ListN.{getD, replicate}
 use borrow.Fn.Kinds.{Dens, resT, endedOf}
-use Rattle.refusal.specs.Answer.{Answer, gives, refused}
+use Rattle.refusal.specs.Answer.{Answer}
+use Rattle.refusal.proofs.Tight.{differ, told}
 use Rattle.refusal.specs.declared.Refusal.{Refusal}
 use Rattle.refusal.specs.declared.Refusal.the-variants.{Room, Frame, Byte}
 use Rattle.ump.specs.Word.{wordsOf}
@@ -27,15 +26,6 @@ ShutOut bytes group before answer after =
     (κs : Lfts 2) (a : Dens κs kinds.ps) (x : resT kinds.r κs .Denot) (s : AtExit (endedOf 2 kinds.ps kinds.r) κs)
     → a .0 .now ≡ bytes → a .1 .0 ≡ group → a .1 .1 .0 .now ≡ before → x ≡ answer → s .1 .1 .0 .now ≡ after → stream.Post κs a x s → ⊥
 
--- two outcomes differ where a number of them does
-differ : {A : Type 0} (number : A → ℕ) {x y : A} → T (not (eqb (number x) (number y))) → x ≡ y → ⊥
-differ number {x} {y} t e = T-not (eqb (number x) (number y)) t (subst (λ (n : ℕ). T (eqb (number x) n)) (ap number e) (eqb-refl (number x)))
-
--- a number of an answer: the words written, or the refusal's number and place
-abbrev told : Answer ℕ → ℕ
-told (gives n) = n
-told (refused n place) = 100000 * n + place
-
 abbrev refusedAt : Refusal → ℕ → Written
 refusedAt refusal place = Refused (record { refusal = refusal; place = place })
 
@@ -45,17 +35,17 @@ stream12 = 0xF0 ∷ 1 ∷ 2 ∷ 3 ∷ 4 ∷ 5 ∷ 6 ∷ 7 ∷ 0xF7 ∷ []
 -- F0 F7 is one packet, and not none
 not-none : ShutOut (0xF0 ∷ 0xF7 ∷ []) 0 (9 ∷ 9 ∷ []) (Words 0) (9 ∷ 9 ∷ [])
 unfolding toSysex7 first pack packs packsAt packetsFor statusFor frame joined wordsOf
-not-none κs a x s b g w r e p = differ (λ o. told (o .0)) tt (rw (b, g, w, r, e) at p)
+not-none κs a x s b g w r e p = differ (λ (o : Answer ℕ × List ℕ). told (λ v. v) (o .0)) tt (rw (b, g, w, r, e) at p)
 
 -- F0 90 F7: F0 has index 0, so the place is 1
 not-zero : ShutOut (0xF0 ∷ 0x90 ∷ 0xF7 ∷ []) 0 (9 ∷ 9 ∷ []) (refusedAt Byte 0) (9 ∷ 9 ∷ [])
 unfolding toSysex7 first packetsFor
-not-zero κs a x s b g w r e p = differ (λ o. told (o .0)) tt (rw (b, g, w, r, e) at p)
+not-zero κs a x s b g w r e p = differ (λ (o : Answer ℕ × List ℕ). told (λ v. v) (o .0)) tt (rw (b, g, w, r, e) at p)
 
 -- F0 and group 16: Field comes before Frame
 not-frame : ShutOut (0xF0 ∷ []) 16 (9 ∷ 9 ∷ []) (refusedAt Frame 0) (9 ∷ 9 ∷ [])
 unfolding toSysex7 first packetsFor
-not-frame κs a x s b g w r e p = differ (λ o. told (o .0)) tt (rw (b, g, w, r, e) at p)
+not-frame κs a x s b g w r e p = differ (λ (o : Answer ℕ × List ℕ). told (λ v. v) (o .0)) tt (rw (b, g, w, r, e) at p)
 
 -- P12: the count is the payload size, and not that plus one
 not-plus-one : ShutOut stream12 0 (replicate 4 9) (Words 4) (0x30170102 ∷ 0x03040506 ∷ 0x30320700 ∷ 0 ∷ [])

@@ -15,7 +15,11 @@ use contract.Monad.{Fun, fact, fact-mono}
 use denote.Ref.{RefT, now}
 use denote.Triple.Clauses.{AtExit}
 use borrow.Fn.Kinds.{endedOf}
-use Rattle.ump.specs.Packet.{sizeOf}
+use Rattle.refusal.proofs.Tight.{differ, told}
+use Rattle.ump.specs.Word.{octets}
+use Rattle.ump.specs.Packet.{sizeOf, payloadAt, joined, payload}
+use Rattle.ump.specs.Packing.{statusFor}
+use Rattle.ump.specs.Check.{first, badType, badStatus, badCount, badGroup, badId, statusNumber, checkPackets, check}
 use Rattle.ump.specs.Reader as paper
 use Rattle.ump.specs.Reader.{row, walk, places, unread, bytesRemaining}
 use Rattle.ump.specs.Samples.{message2, message5, alone}
@@ -24,6 +28,9 @@ use Rattle.reader.specs.declared.Step.{Step}
 use Rattle.reader.specs.declared.Step.the-variants.{Byte, Ended}
 use Rattle.reader.specs.declared.Read.{Read}
 use Rattle.reader.specs.declared.PayloadReader.{PayloadReader}
+use Rattle.reader.specs.declared.Opened.the-variants as opened
+use Rattle.reader.proofs.open.Kinds as open-kinds
+use Rattle.reader.proofs.open.Reads as opening
 use Rattle.reader.proofs.next.Kinds as next-kinds
 use Rattle.reader.proofs.next.Reads as next
 use Rattle.reader.proofs.nth.Kinds as nth-kinds
@@ -68,6 +75,16 @@ module _ (κs : Lfts 1) (ptr : ℕ × ℕ) (name : GName) where
     not-past-count : next.Post κs (lent message2, (at 0 1 0, tt)) (answer (Byte 0x42) (at 0 2 0)) s → ⊥
     unfolding paper.nth unread places walk row sizeOf
     not-past-count p = omega (arith, ap (λ (r : paper.Read). valueOf (r .step)) p)
+
+  module _ (s : AtExit (endedOf 1 open-kinds.ps open-kinds.r) κs) where
+    -- P5's message is opened at its second byte, or with its words for its bytes
+    not-second : opening.Post κs (lent message5, (12, tt)) (opened.Cursor (at 0 1 3)) s → ⊥
+    unfolding paper.reader check checkPackets badType badStatus badCount badGroup badId statusNumber first statusFor payload payloadAt sizeOf octets joined
+    not-second p = differ (told (λ (c : paper.Cursor). c .byte)) tt p
+
+    not-words : opening.Post κs (lent message5, (12, tt)) (opened.Cursor (at 0 0 12)) s → ⊥
+    unfolding paper.reader check checkPackets badType badStatus badCount badGroup badId statusNumber first statusFor payload payloadAt sizeOf octets joined
+    not-words p = differ (told (λ (c : paper.Cursor). c .remaining)) tt p
 
   module _ (s : AtExit (endedOf 1 nth-kinds.ps nth-kinds.r) κs) where
     -- a count of 15 as 14 bytes

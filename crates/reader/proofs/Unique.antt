@@ -17,7 +17,7 @@ use Rattle.ump.specs.Reader as paper
 use Rattle.reader.specs.Meaning.{stepMeaning}
 use Rattle.reader.specs.declared.PayloadReader.{PayloadReader}
 use Rattle.reader.specs.declared.Step.{Step}
-use Rattle.reader.proofs.Laws.{step-once, read-once}
+use Rattle.reader.proofs.Laws.{step-once, read-once, open-once}
 use Rattle.reader.proofs.next.Kinds as next-kinds
 use Rattle.reader.proofs.next.Reads as next
 use Rattle.reader.proofs.nth.Kinds as nth-kinds
@@ -26,6 +26,8 @@ use Rattle.reader.proofs.remaining.Kinds as remaining-kinds
 use Rattle.reader.proofs.remaining.Reads as remaining
 use Rattle.reader.proofs.payload_byte.Kinds as byte-kinds
 use Rattle.reader.proofs.payload_byte.Reads as byte
+use Rattle.reader.proofs.open.Kinds as open-kinds
+use Rattle.reader.proofs.open.Reads as opening
 use Rattle.reader.proofs.PayloadReader.new as held-new
 use Rattle.reader.proofs.PayloadReader.nth as held-nth
 use Rattle.reader.proofs.PayloadReader.next as held-next
@@ -39,6 +41,9 @@ nth-unique κs a x y s t p q = read-once x y (p ∙ sym q)
 
 remaining-unique : FixesResult 1 remaining-kinds.ps remaining-kinds.r remaining.Post
 remaining-unique κs a x y s t p q = p ∙ sym q
+
+open-unique : FixesResult 1 open-kinds.ps open-kinds.r opening.Post
+open-unique κs a x y s t p q = open-once x y (p ∙ sym q)
 
 byte-unique : FixesResult 1 byte-kinds.ps byte-kinds.r byte.Post
 byte-unique κs a x y s t p q = step-once x y (p ∙ sym q)

@@ -5,9 +5,11 @@ ghost use lib.ListN.{length};
 ghost use denote.Ref.{now};
 ghost use Rattle.ump.specs.Word.{nibble, octet as octetOf};
 ghost use Rattle.ump.specs.Packet.{sysex8, sizeOf, sizeAt, byteAt};
-ghost use Rattle.ump.specs.Reader.{nth as nthOf, bytesRemaining};
-ghost use Rattle.reader.specs.Meaning.{cursorMeaning, stepMeaning, readMeaning};
+ghost use Rattle.ump.specs.Reader.{nth as nthOf, bytesRemaining, reader as readerOf};
+ghost use Rattle.reader.specs.Meaning.{cursorMeaning, stepMeaning, readMeaning, openMeaning};
 ghost use Rattle.reader.specs.Held.{readerAt, cursorOf, readOn};
+use message::sysex8::Checked;
+use refusal::Fault;
 
 // Packet and byte where the next byte stands, and how many bytes are to be read.
 pub struct Cursor {
@@ -128,6 +130,27 @@ pub fn remaining(words: &[u32], cursor: Cursor) -> usize
         byte = 0;
     }
     count - ahead
+}
+
+// The answer of making a reader over a message.
+pub enum Opened {
+    Cursor(Cursor),
+    Refused(Fault),
+}
+
+// The cursor at the start of the message in the first `length` words, which are those that it is then read with; the check's refusals.
+pub fn open(words: &[u32], length: usize) -> Opened
+    ensures { λ r. ⌜ openMeaning r ≡ readerOf sysex8 (now (words .entry)) length ⌝ }
+{
+    let checked = message::sysex8::check(words, length);
+    match checked {
+        Checked::Refused(fault) => Opened::Refused(fault),
+        Checked::Message(message) => Opened::Cursor(Cursor {
+            packet: 0,
+            byte: 0,
+            remaining: message.size,
+        }),
+    }
 }
 
 // The reader keeps the words it was made over, with packet, byte and remaining counts.

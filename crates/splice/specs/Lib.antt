@@ -1,0 +1,3 @@
+-- Names for what the loops leave.
+pub mod Seam
+pub mod Header

@@ -6,7 +6,8 @@ use native.Mathlib.Nat.{le-of-suc-le-suc, not-suc-le-zero}
 use native.Mathlib.Numerals.{add-one}
 use native.Mathlib.Omega.{arith}
 use lib.ListN.{length, take, drop, getD, set, replicate, length-append, length-take, length-drop, length-replicate, getD-replicate, take-append-drop, List·getD-append}
-use lib.Seq.{getD-append-add, take-at}
+use lib.Seq.{getD-append-add, take-at, drop-append-add, drop-drop}
+use Rattle.ump.specs.Splice.{stored}
 use Rattle.splice.specs.Seam.{seam, zeroed}
 
 -- ---- a seam of two lists of one length
@@ -86,3 +87,18 @@ module _ (l : List ℕ) (from to : ℕ) (begins : from ≤ length l) (ends : to 
       ∙ ap (λ (x : List ℕ). x ++ drop (max to from) l)
       (take-at (take from l ++ replicate (to - from) 0) (drop (max to from) l) (max to from) (simp (length-append, length-take, length-replicate) (omega arith)))
       ∙ append-assoc (take from l) (replicate (to - from) 0) (drop (max to from) l)
+
+-- ---- a message put over old words, and zeros up to the old end
+
+drop-past : (m w : List ℕ) (k : ℕ) → length m ≤ k → drop k (m ++ drop (length m) w) ≡ drop k w
+drop-past m w k h =
+    let s : length m + (k - length m) ≡ k = omega arith in
+    ap (λ (x : ℕ). drop x (m ++ drop (length m) w)) (sym s)
+    ∙ drop-append-add m (drop (length m) w) (k - length m)
+    ∙ drop-drop (k - length m) (length m) w
+    ∙ ap (λ (x : ℕ). drop x w) s
+
+pub zeroed-is-stored : (m w : List ℕ) (len end : ℕ) → length m ≡ end → zeroed (m ++ drop end w) end len ≡ stored w len m
+unfolding stored
+zeroed-is-stored m w len end e =
+    rw (← e, take-at m (drop (length m) w) (length m) refl, drop-past m w (max len (length m)) (omega arith))

@@ -12,3 +12,4 @@ pub mod Moving
 pub mod Bytes
 pub mod Positions
 pub mod NotEmpty
+pub mod Payload

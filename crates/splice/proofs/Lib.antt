@@ -4,4 +4,8 @@ pub mod Standing
 pub mod Messages
 pub mod Pushed
 pub mod Packs
+pub mod Fours
+pub mod NewWords
+pub mod Levels
+pub mod Targets
 pub mod Unique

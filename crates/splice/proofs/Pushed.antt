@@ -129,7 +129,7 @@ module _ (w bs : List ℕ) (g id : ℕ) (room : wordsFor sysex8 (length bs) ≤ 
     pub push-step : (base b : ℕ) → base ≡ word (80 + g) 0 id 0 → place m / 4 < wordsFor sysex8 (length bs) → b ≡ getD bs m 0 → b < 256
         → Pushed w bs g id (m + 1) (pushOctets (place m) octets b) (pushWords base (length bs) (place m) octets b us)
     unfolding pushOctets pushWords pending
-    push-step base b shared le same small = rw add-one (go (test (place m % 4) 3))
+    push-step base b shared le same small = rw (add-one m) (go (test (place m % 4) 3))
       where
         go : Test (place m % 4) 3
             → Pushed w bs g id (suc m) (cond (eqb (place m % 4) 3) 0 (octets * 256 + b)) (cond (eqb (place m % 4) 3) (set us (place m / 4) (pushWord base (length bs) (place m) octets b)) us)

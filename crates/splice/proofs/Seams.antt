@@ -98,6 +98,11 @@ drop-past m w k h =
     ∙ drop-drop (k - length m) (length m) w
     ∙ ap (λ (x : ℕ). drop x w) s
 
+pub seam-past : (k m : ℕ) (xs ys : List ℕ) → k ≤ length xs → k ≤ m → drop m (seam k xs ys) ≡ drop m ys
+seam-past k m xs ys h le =
+    let e : length (take k xs) ≡ k = simp length-take (omega arith) in
+    ap (λ (x : ℕ). drop m (take k xs ++ drop x ys)) (sym e) ∙ drop-past (take k xs) ys m (omega arith)
+
 pub zeroed-is-stored : (m w : List ℕ) (len end : ℕ) → length m ≡ end → zeroed (m ++ drop end w) end len ≡ stored w len m
 unfolding stored
 zeroed-is-stored m w len end e =

@@ -59,3 +59,9 @@ word-begins m h r =
     let d : (m - 3) / 13 ≡ m / 13 = omega arith in
     let e : place (m - 3) ≡ 4 * (place m / 4) + 0 = omega arith in
     (omega arith, quarters (place (m - 3)) (place m / 4) 0 (omega arith) e .1)
+
+-- a byte of n stands in the words of n bytes, and so do the four from one on
+pub place-in : (i n : ℕ) → i < n → place i / 4 < 4 * suc ((n - 1) / 13)
+place-in i n h =
+    let d : i / 13 ≤ (n - 1) / 13 = omega arith in
+    omega (arith, place-is i)

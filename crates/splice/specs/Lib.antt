@@ -4,3 +4,4 @@ pub mod Header
 pub mod Places
 pub mod Pushing
 pub mod Passed
+pub mod Splices

@@ -1,8 +1,7 @@
 -- Where the payload bytes of a SysEx8 message stand that has 13 of them in every packet but the last. Assumes nothing.
-use mathlib.Core.Path.{_≡_}
 use mathlib.Core.List.{List}
-use Prim.Native.Nat.{ℕ, _+_, _*_, _/_, _%_, _<_}
-use lib.ListN.{length, getD}
+use Prim.Native.Nat.{ℕ, _+_, _-_, _*_, _/_, _%_, _^_}
+use lib.ListN.{getD}
 use Rattle.ump.specs.Word.{octet}
 
 -- the octet of byte i, counted from the message's start
@@ -17,6 +16,6 @@ next at = at + 1 + at % 16 / 15 * 3
 unfoldable pub byteAt : List ℕ → ℕ → ℕ
 byteAt words i = octet (getD words (place i / 4) 0) (place i % 4)
 
--- these are the words' bytes
-abbrev pub Level : List ℕ → List ℕ → Type 0
-Level words bytes = (i : ℕ) → i < length bytes → getD bytes i 0 ≡ byteAt words i
+-- the four octets of two words from octet i on
+abbrev pub cut : ℕ → ℕ → ℕ → ℕ
+cut first second i = (first * 4294967296 + second) / 2 ^ ((4 - i) * 8) % 4294967296

@@ -2,3 +2,4 @@
 mod header;
 pub mod packing;
 mod places;
+pub mod splicing;

@@ -51,7 +51,7 @@ place-over i d l h =
     omega arith
 
 -- the byte at a known octet of a known word
-byte-is : (ws : List ℕ) (i k j : ℕ) → j < 4 → place i ≡ 4 * k + j → byteAt ws i ≡ octet (getD ws k 0) j
+pub byte-is : (ws : List ℕ) (i k j : ℕ) → j < 4 → place i ≡ 4 * k + j → byteAt ws i ≡ octet (getD ws k 0) j
 unfolding byteAt
 byte-is ws i k j h e = rw (quarters (place i) k j h e .0, quarters (place i) k j h e .1)
 

@@ -8,4 +8,7 @@ pub mod Fours
 pub mod NewWords
 pub mod Levels
 pub mod Targets
+pub mod Heads
+pub mod Fewest
+pub mod Plans
 pub mod Unique

@@ -4,10 +4,11 @@ use mathlib.Core.List.{List, [], _∷_}
 use Prim.Native.Nat.{ℕ, suc, _+_, _-_, _*_, _/_, _%_, _^_, _≤_, _<_, min}
 use native.Mathlib.Omega.{arith}
 use lib.ListN.{length, getD}
-use Rattle.ump.specs.Word.{octet, word}
+use Rattle.ump.specs.Word.{nibble, octet, word}
 use Rattle.ump.specs.Packet.{sysex8, groupAt, idAt, sizeAt, payload}
 use Rattle.ump.specs.Packing.{statusFor, packetsFor}
 use Rattle.ump.specs.Check.{Valid, payloadOf}
+use Rattle.ump.proofs.Words.{word-octets}
 use Rattle.ump.proofs.Sizes.{size-of-count}
 use Rattle.ump.proofs.Checks.{passes-valid}
 use Rattle.ump.proofs.Message.{length-payload}
@@ -20,6 +21,15 @@ pub head-word : (base g id n p b : ℕ) → base ≡ word (80 + g) 0 id 0
     → headOf base n p + b ≡ word (80 + g) (statusFor (packetsFor sysex8 n) p * 16 + (min 13 (n - 13 * p) + 1)) id b
 unfolding headOf
 head-word base g id n p b e = omega (arith, ap (λ (k : ℕ). statusFor k p) (packets-number n))
+
+-- and one from its fields
+pub first-word : (x g status count id : ℕ) → x < 2 ^ 32 → nibble x 0 ≡ 5 → nibble x 1 ≡ g → nibble x 2 ≡ status → nibble x 3 ≡ count → octet x 2 ≡ id
+    → word (80 + g) (status * 16 + count) id (x % 256) ≡ x
+first-word x g status count id h t eg es ec ei =
+    let a : octet x 0 ≡ 80 + g = omega arith in
+    let b : octet x 1 ≡ status * 16 + count = omega arith in
+    let d : octet x 3 ≡ x % 256 = omega arith in
+    rw (← a, ← b, ← ei, ← d) (word-octets x h)
 
 module _ (w : List ℕ) (len n : ℕ) (ok : Passed w len n) where
   valid : Valid sysex8 w len
@@ -49,3 +59,12 @@ module _ (w : List ℕ) (len n : ℕ) (ok : Passed w len n) where
 
   pub base-is : getD w 0 0 < 2 ^ 32 → baseOf (getD w 0 0) ≡ word (80 + groupAt sysex8 w 0) 0 (octet (getD w 0 0) 2) 0
   base-is small = omega (arith, valid .types 0 (valid .some-packet))
+
+  -- the first word of packet p
+  pub first-is : (p : ℕ) → p < len / 4 → getD w (4 * p) 0 < 2 ^ 32
+      → word (80 + groupAt sysex8 w 0) (statusFor (len / 4) p * 16 + getD w (4 * p) 0 / 65536 % 16) (octet (getD w 0 0) 2) (getD w (4 * p) 0 % 256) ≡ getD w (4 * p) 0
+  first-is p h small =
+      let v = valid in
+      let l : p < v .packets = omega (arith, packets-are) in
+      first-word (getD w (4 * p) 0) _ _ _ _ small (v .types p l) (v .groups p l) (v .statuses p l ∙ ap (λ (k : ℕ). statusFor k p) packets-are) refl
+      (ap (λ (l : List ℕ). getD l 0 0) (v .one-id p l))

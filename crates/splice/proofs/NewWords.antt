@@ -21,11 +21,11 @@ use Rattle.splice.proofs.Seams.{getD-past}
 -- ---- words by their bytes
 
 -- a first word, and another
-data Row (k : ℕ) : Type 0 where
+pub data Row (k : ℕ) : Type 0 where
   first : k % 4 ≡ 0 → Row k
   other : (k % 4 ≡ 0 → ⊥) → 0 < k % 4 → Row k
 
-row : (k : ℕ) → Row k
+pub row : (k : ℕ) → Row k
 row k = go (k % 4) refl
   where
     go : (r : ℕ) → k % 4 ≡ r → Row k
@@ -93,7 +93,7 @@ module _ (ws r : List ℕ) (plan : Plan) where
   abbrev tail : ℕ
   tail = plan .from + length r
 
-  new-low : (i : ℕ) → i < plan .from → newByte ws r plan i ≡ byteAt ws i
+  pub new-low : (i : ℕ) → i < plan .from → newByte ws r plan i ≡ byteAt ws i
   unfolding newByte
   new-low i h = rw (lt-ltb _ _ h)
 
@@ -113,7 +113,10 @@ module _ (ws r : List ℕ) (plan : Plan) where
       let z : plan .from ≤ i = omega arith in
       rw (le-ltb _ _ z, le-ltb _ _ h, le-ltb _ _ l)
 
-  -- four of the replacement, and four of the tail
+  -- four before the range, four of the replacement, and four of the tail
+  pub low-four : (i : ℕ) → i + 3 < plan .from → fourOf (byteAt ws) i ≡ fourOf (newByte ws r plan) i
+  low-four i h = four-same (byteAt ws) (newByte ws r plan) i i (λ d u. sym (new-low (i + d) (omega arith)))
+
   pub replaced-four : (i j : ℕ) → plan .from ≤ i → j ≡ i - plan .from → j + 3 < length r → fourOf (λ x. getD r x 0) j ≡ fourOf (newByte ws r plan) i
   replaced-four i j h e l =
       four-same (λ x. getD r x 0) (newByte ws r plan) j i

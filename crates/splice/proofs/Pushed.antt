@@ -30,11 +30,11 @@ pending f zero = 0
 pending f (suc m) = pushOctets (place m) (pending f m) (f m)
 
 -- a test of the source, with what it shows
-data Test (x y : ℕ) : Type 0 where
+pub data Test (x y : ℕ) : Type 0 where
   is : x ≡ y → eqb x y ≡ true → Test x y
   isnt : (x ≡ y → ⊥) → eqb x y ≡ false → Test x y
 
-test : (x y : ℕ) → Test x y
+pub test : (x y : ℕ) → Test x y
 test x y = go (eqb x y) refl
   where
     go : (b : Bool) → eqb x y ≡ b → Test x y

@@ -2,10 +2,10 @@
 use mathlib.Core.Path.{_≡_, refl, sym, ap, _∙_}
 use mathlib.Core.List.{List, [], _∷_, _++_, append-assoc}
 use Prim.Native.Nat.{ℕ, zero, suc, _+_, _-_, _≤_, _<_, max}
-use native.Mathlib.Nat.{le-of-suc-le-suc, not-suc-le-zero}
+use native.Mathlib.Nat.{le-of-suc-le-suc, not-suc-le-zero, suc-sub-suc, sub-zero, zero-sub}
 use native.Mathlib.Numerals.{add-one}
 use native.Mathlib.Omega.{arith}
-use lib.ListN.{length, take, drop, getD, set, replicate, length-append, length-take, length-drop, length-replicate, getD-replicate, take-append-drop, List·getD-append}
+use lib.ListN.{length, take, drop, getD, set, replicate, length-append, length-take, length-drop, length-replicate, getD-replicate, replicate-append-replicate, take-append-drop, List·getD-append}
 use lib.Seq.{getD-append-add, take-at, drop-append-add, drop-drop}
 use Rattle.ump.specs.Splice.{stored}
 use Rattle.splice.specs.Seam.{seam, zeroed}
@@ -107,3 +107,33 @@ pub zeroed-is-stored : (m w : List ℕ) (len end : ℕ) → length m ≡ end →
 unfolding stored
 zeroed-is-stored m w len end e =
     rw (← e, take-at m (drop (length m) w) (length m) refl, drop-past m w (max len (length m)) (omega arith))
+
+drop-zeros : (k n : ℕ) (l : List ℕ) → drop k (replicate n 0 ++ l) ≡ replicate (n - k) 0 ++ drop (k - n) l
+drop-zeros zero n l = rw (sub-zero, zero-sub)
+drop-zeros (suc k) zero l = rw (sub-zero, zero-sub)
+drop-zeros (suc k) (suc n) l = rw (suc-sub-suc n k, suc-sub-suc k n) (drop-zeros k n l)
+
+-- zeros up to the first end and on to the second, and what stands past both
+zeros-reach : (a b len : ℕ) → a ≤ len → (a - b) + ((len - a) - (b - a)) ≡ len - b
+zeros-reach a b len h = omega arith
+
+rest-begins : (a b len : ℕ) → a ≤ len → len + ((b - a) - (len - a)) ≡ max len b
+rest-begins a b len h = omega arith
+
+-- what is stored over a shorter message is stored over the one before it
+pub stored-again : (w m m′ : List ℕ) (len : ℕ) → length m ≤ len → stored (stored w len m) (length m) m′ ≡ stored w len m′
+unfolding stored
+stored-again w m m′ len h =
+    let a = length m in
+    let b = length m′ in
+    let x = replicate (len - a) 0 ++ drop (max len a) w in
+    let top : max a b ≡ a + (b - a) = omega arith in
+    let old : max len a ≡ len = omega arith in
+    ap (λ (k : ℕ). m′ ++ (replicate (a - b) 0 ++ drop k (m ++ x))) top
+    ∙ ap (λ (l : List ℕ). m′ ++ (replicate (a - b) 0 ++ l))
+    (drop-append-add m x (b - a)
+    ∙ drop-zeros (b - a) (len - a) (drop (max len a) w)
+    ∙ ap (λ (l : List ℕ). replicate ((len - a) - (b - a)) 0 ++ l) (ap (λ (k : ℕ). drop ((b - a) - (len - a)) (drop k w)) old ∙ drop-drop ((b - a) - (len - a)) len w ∙ ap (λ (k : ℕ). drop k w) (rest-begins a b len h)))
+    ∙ ap (λ (l : List ℕ). m′ ++ l)
+    (sym (append-assoc (replicate (a - b) 0) (replicate ((len - a) - (b - a)) 0) (drop (max len b) w))
+    ∙ ap (λ (l : List ℕ). l ++ drop (max len b) w) (replicate-append-replicate (a - b) ((len - a) - (b - a)) 0 ∙ ap (λ (k : ℕ). replicate k 0) (zeros-reach a b len h)))

@@ -7,7 +7,7 @@ use lib.Dec.{eqb, ltb}
 use lib.ListN.{length, drop, getD, set}
 use Rattle.ump.specs.Word.{word, octet}
 use Rattle.ump.specs.Packet.{sysex8, groupAt, idAt}
-use Rattle.ump.specs.Packing.{pack}
+use Rattle.ump.specs.Packing.{wordsFor, pack}
 use Rattle.ump.specs.Check.{payloadOf}
 use Rattle.ump.specs.Splice.{spliced}
 use Rattle.splice.specs.Header.{headOf}
@@ -33,6 +33,17 @@ pub record Ready (words replacement : List ℕ) (plan : Plan) : Type 0 where
   pub passed : Passed words (plan .length) (plan .size)
   pub full : Full words (plan .length)
   pub shared : plan .base ≡ word (80 + groupAt sysex8 words 0) 0 (octet (getD words 0 0) 2) 0
+
+-- the size of the new payload
+abbrev pub newSize : ℕ → ℕ → ℕ → List ℕ → ℕ
+newSize size from to replacement = size - (to - from) + length replacement
+
+-- what a splice asks of a message, a range and a replacement
+pub record Possible (words replacement : List ℕ) (len size from to : ℕ) : Type 0 where
+  pub passed : Passed words len size
+  pub forward : from ≤ to
+  pub inside : to ≤ size
+  pub room : wordsFor sysex8 (newSize size from to replacement) ≤ length words
 
 -- byte i of the new payload, read where it stands
 unfoldable pub newByte : List ℕ → List ℕ → Plan → ℕ → ℕ

@@ -68,7 +68,7 @@ fn push(
 }
 
 // How many payload bytes the packet with this first word carries.
-fn carried_by(first: u32) -> usize
+pub(crate) fn carried_by(first: u32) -> usize
     requires { ⌜ 0 < first / 65536 % 16 ⌝ }
     ensures { λ r. ⌜ r ≡ first / 65536 % 16 - 1 ⌝ }
 {

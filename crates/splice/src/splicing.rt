@@ -1,11 +1,22 @@
 // Replacing payload bytes of a message.
 ghost use mathlib.Core.Path.{_≡_};
+ghost use mathlib.Core.Bool.{true};
 ghost use Prim.Native.Nat.{suc, _+_, _-_, _*_, _/_, _≤_, _<_};
 ghost use lib.ListN.{length};
 ghost use Rattle.ump.specs.Word.{word};
+ghost use Rattle.ump.specs.Packet.{sysex8};
+ghost use Rattle.ump.specs.Packing.{wordsFor};
+ghost use Rattle.ump.specs.Check.{payloadOf};
+ghost use Rattle.ump.specs.Splice.{spliced, rewritten};
+ghost use Rattle.splice.specs.Passed.{Passed, Full};
 ghost use Rattle.splice.specs.Seam.{seam};
-ghost use Rattle.splice.specs.Splices.{Sized, Ready, newByte, newWord, headed, target};
+ghost use Rattle.splice.specs.Splices.{Sized, Ready, Possible, newSize, newByte, newWord, headed, target};
+use super::header::base_of;
 use super::header::head;
+use super::packing::carried_by;
+use super::packing::pack;
+use super::packing::words_needed;
+use super::packing::zero;
 use super::places::byte_at;
 use super::places::four_at;
 use super::places::four_of;
@@ -149,4 +160,77 @@ fn put_heads(words: &mut [u32], plan: Plan)
     let k = 4 * (from / 13) - 4;
     let last = head(plan.base, plan.total, plan.end, k) + words[k] % 0x100;
     words[k] = last;
+}
+
+// Writes the new message from the packet in which the range begins on.
+fn write(words: &mut [u32], replacement: &[u8], plan: Plan)
+    requires { ⌜ Ready (now words) (now replacement) plan ⌝ }
+    ensures { λ _. ⌜ now (words .exit) ≡ seam (4 * (plan .from / 13)) (now (words .entry)) (target (now (words .entry)) (now (replacement .entry)) plan) ⌝ }
+{
+    if plan.size <= plan.total {
+        raise(words, replacement, plan);
+        return;
+    }
+    lower(words, replacement, plan);
+}
+
+// The splice of a message whose packets are full but for the last.
+fn splice_full(words: &mut [u32], replacement: &[u8], plan: Plan)
+    requires { ⌜ Ready (now words) (now replacement) plan ⌝ }
+    ensures { λ _. ⌜ now (words .exit) ≡ rewritten sysex8 (now (words .entry)) (plan .length) (spliced (payloadOf sysex8 (now (words .entry)) (plan .length)) (plan .from) (plan .to) (now (replacement .entry))) ⌝ }
+{
+    write(words, replacement, plan);
+    put_heads(words, plan);
+    zero(words, plan.end, plan.length);
+}
+
+// Whether every packet but the last is full: only then do the others carry as much as they can.
+fn is_full(words: &[u32], length: usize, size: usize) -> bool
+    requires { ⌜ Passed (now words) length size ⌝ }
+    ensures { λ r. ⌜ (r ≡ true → Full (now (words .entry)) length) ⌝ }
+{
+    let last = carried_by(words[length - 4]);
+    size == 13 * (length / 4 - 1) + last
+}
+
+// Replaces the payload bytes `from..to` of a valid message and writes the fewest-packet form; answers its length.
+pub(crate) fn splice(
+    words: &mut [u32],
+    replacement: &[u8],
+    length: usize,
+    size: usize,
+    from: usize,
+    to: usize,
+) -> usize
+    requires { ⌜ Possible (now words) (now replacement) length size from to ⌝ }
+    ensures { λ r. ⌜ (r ≡ wordsFor sysex8 (newSize size from to (now (replacement .entry)))) × (now (words .exit) ≡ rewritten sysex8 (now (words .entry)) length (spliced (payloadOf sysex8 (now (words .entry)) length) from to (now (replacement .entry)))) ⌝ }
+{
+    let total = size - (to - from) + replacement.len();
+    let end = words_needed(total);
+    let base = base_of(words[0]);
+    if is_full(words, length, size) {
+        let plan = Plan {
+            length,
+            size,
+            from,
+            to,
+            total,
+            end,
+            base,
+        };
+        splice_full(words, replacement, plan);
+        return end;
+    }
+    let packed = pack(words, length, size);
+    let plan = Plan {
+        length: packed,
+        size,
+        from,
+        to,
+        total,
+        end,
+        base,
+    };
+    splice_full(words, replacement, plan);
+    end
 }

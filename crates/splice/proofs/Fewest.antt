@@ -1,11 +1,11 @@
 -- A message in fewest-packet form is ready for a splice, and what the splice leaves is what it would of the message before. Assumes nothing.
 use mathlib.Core.Path.{_≡_, refl, sym, ap, _∙_}
-use mathlib.Core.List.{List, [], _∷_, _++_}
-use Prim.Native.Nat.{ℕ, suc, _+_, _-_, _*_, _/_, _%_, _≤_, _<_, min, max}
+use mathlib.Core.List.{List, _++_}
+use Prim.Native.Nat.{ℕ, suc, _+_, _-_, _/_, _<_, max}
 use native.Mathlib.Omega.{arith}
-use lib.ListN.{length, take, drop, replicate, length-append, length-take, length-drop}
+use lib.ListN.{length, drop, replicate, length-take, length-drop}
 use Rattle.ump.specs.Word.{Below}
-use Rattle.ump.specs.Packet.{sysex8, groupAt, idAt, countAt, sizeAt}
+use Rattle.ump.specs.Packet.{sysex8, groupAt, idAt, countAt}
 use Rattle.ump.specs.Packing.{packetsFor, wordsFor, chunk, pack}
 use Rattle.ump.specs.Check.{payloadOf}
 use Rattle.ump.specs.Splice.{stored, rewritten}
@@ -13,7 +13,7 @@ use Rattle.ump.proofs.Sizes.{size-of-count}
 use Rattle.ump.proofs.Packing.{length-pack, length-chunk, below-chunk, count-packs}
 use Rattle.ump.proofs.Checks.{valid-passes}
 use Rattle.ump.proofs.Message.{payloadOf-pack, group-of-pack, id-of-pack, pack-valid}
-use Rattle.ump.proofs.Splicing.{group-fits, length-id, below-id, below-payload, length-stored}
+use Rattle.ump.proofs.Splicing.{group-fits, below-id, below-payload, length-stored}
 use Rattle.splice.specs.Passed.{Passed, Full}
 use Rattle.splice.proofs.Numbers.{packets-number, words-number}
 use Rattle.splice.proofs.Messages.{inside, end-fits}

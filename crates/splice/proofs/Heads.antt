@@ -1,19 +1,18 @@
 -- Of the packets before a splice's range, only the first words of the first and the last may change. Assumes nothing.
 use mathlib.Core.Path.{_≡_, refl, sym, ap, _∙_}
 use mathlib.Core.List.{List}
-use Prim.Native.Nat.{ℕ, zero, suc, _+_, _-_, _*_, _/_, _%_, _^_, _≤_, _<_, min}
+use Prim.Native.Nat.{ℕ, suc, _+_, _-_, _*_, _/_, _%_, _^_, _≤_, _<_, min}
 use native.Mathlib.Omega.{arith}
 use lib.ListN.{length, getD, set, length-set}
 use lib.Seq.{ext-getD, getD-set-same, getD-set-other}
-use borrow.Author.Tests.{lt-ltb, le-ltb, eq-eqb}
-use Rattle.ump.specs.Word.{octet, word}
+use borrow.Author.Tests.{eq-eqb}
+use Rattle.ump.specs.Word.{octet}
 use Rattle.ump.specs.Packet.{sysex8, groupAt}
 use Rattle.ump.specs.Packing.{statusFor, packetsFor}
 use Rattle.ump.proofs.Sizes.{status-inner}
 use Rattle.ump.proofs.First.{Side, under, over, side}
 use Rattle.splice.specs.Header.{headOf}
 use Rattle.splice.specs.Places.{place}
-use Rattle.splice.specs.Seam.{seam}
 use Rattle.splice.specs.Splices.{Ready, newByte, newWord, headed, target}
 use Rattle.splice.specs.declared.splicing.Plan.{Plan}
 use Rattle.splice.proofs.Numbers.{packets-number}

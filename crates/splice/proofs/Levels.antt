@@ -4,7 +4,6 @@ use mathlib.Core.List.{List}
 use Prim.Native.Nat.{ℕ, zero, suc, _+_, _-_, _*_, _/_, _%_, _≤_, _<_}
 use native.Mathlib.Omega.{arith}
 use lib.ListN.{length, getD}
-use Rattle.ump.specs.Word.{octet}
 use Rattle.ump.specs.Packet.{sysex8, sizeAt, joined, payload}
 use Rattle.ump.specs.Check.{payloadOf}
 use Rattle.ump.proofs.First.{Side, under, over, side}

@@ -1,13 +1,13 @@
 -- What the check has shown of a message, as numbers. Assumes nothing.
-use mathlib.Core.Path.{_≡_, refl, sym, ap, _∙_}
-use mathlib.Core.List.{List, [], _∷_}
+use mathlib.Core.Path.{_≡_, refl, ap, _∙_}
+use mathlib.Core.List.{List}
 use Prim.Native.Nat.{ℕ, suc, _+_, _-_, _*_, _/_, _%_, _^_, _≤_, _<_, min}
 use native.Mathlib.Omega.{arith}
 use lib.ListN.{length, getD}
 use Rattle.ump.specs.Word.{nibble, octet, word}
-use Rattle.ump.specs.Packet.{sysex8, groupAt, idAt, sizeAt, payload}
+use Rattle.ump.specs.Packet.{sysex8, groupAt, sizeAt}
 use Rattle.ump.specs.Packing.{statusFor, packetsFor}
-use Rattle.ump.specs.Check.{Valid, payloadOf}
+use Rattle.ump.specs.Check.{Valid}
 use Rattle.ump.proofs.Words.{word-octets}
 use Rattle.ump.proofs.Sizes.{size-of-count}
 use Rattle.ump.proofs.Checks.{passes-valid}

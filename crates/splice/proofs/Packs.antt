@@ -1,7 +1,7 @@
 -- The laws of the packing loop: it reads packet by packet, and pushes what it reads. Assumes nothing.
-use mathlib.Core.Path.{_≡_, refl, sym, ap, _∙_}
-use mathlib.Core.List.{List, [], _∷_, _++_}
-use Prim.Native.Nat.{ℕ, zero, suc, _+_, _-_, _*_, _/_, _%_, _^_, _≤_, _<_, min}
+use mathlib.Core.Path.{_≡_, refl, sym, _∙_}
+use mathlib.Core.List.{List}
+use Prim.Native.Nat.{ℕ, suc, _+_, _-_, _*_, _/_, _%_, _^_, _≤_, _<_, min}
 use native.Mathlib.Numerals.{add-one}
 use native.Mathlib.Omega.{arith}
 use lib.ListN.{length, drop, getD, List·getD-eq-default}
@@ -10,7 +10,7 @@ use Rattle.ump.specs.Word.{octet, word}
 use Rattle.ump.specs.Packet.{sysex8, groupAt, idAt, sizeAt, joined, payload}
 use Rattle.ump.specs.Packing.{wordsFor, pack}
 use Rattle.ump.specs.Check.{payloadOf}
-use Rattle.ump.specs.Splice.{stored, rewritten}
+use Rattle.ump.specs.Splice.{rewritten}
 use Rattle.ump.proofs.First.{Side, under, over, side}
 use Rattle.ump.proofs.Packing.{length-pack}
 use Rattle.ump.proofs.Message.{length-payload}
@@ -19,12 +19,12 @@ use Rattle.splice.specs.Header.{baseOf}
 use Rattle.splice.specs.Passed.{Passed}
 use Rattle.splice.specs.Places.{place, next}
 use Rattle.splice.specs.Pushing.{pushWords, pushOctets}
-use Rattle.splice.specs.Seam.{seam, zeroed}
+use Rattle.splice.specs.Seam.{zeroed}
 use Rattle.splice.proofs.Numbers.{words-number}
 use Rattle.splice.proofs.Standing.{place-is, place-mono, place-next}
-use Rattle.splice.proofs.Messages.{inside, there, counts, size-is, size-fits, end-fits, base-is}
+use Rattle.splice.proofs.Messages.{inside, there, counts, size-is, end-fits, base-is}
 use Rattle.splice.proofs.Seams.{zeroed-is-stored}
-use Rattle.splice.proofs.Pushed.{packed, Pushed, push-start, push-length, push-rest, push-cap, push-step}
+use Rattle.splice.proofs.Pushed.{Pushed, push-start, push-length, push-rest, push-cap, push-step}
 
 -- the id of the first packet
 abbrev pub idOf : List ℕ → ℕ

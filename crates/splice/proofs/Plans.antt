@@ -1,9 +1,9 @@
 -- When a splice may begin, and what is written once it is done. Assumes nothing.
 use mathlib.Core.Path.{_≡_, refl, sym, ap, _∙_}
-use mathlib.Core.List.{List, [], _∷_, _++_}
-use Prim.Native.Nat.{ℕ, suc, _+_, _-_, _*_, _/_, _^_, _≤_, _<_}
+use mathlib.Core.List.{List}
+use Prim.Native.Nat.{ℕ, _+_, _*_, _/_, _^_, _≤_, _<_}
 use native.Mathlib.Omega.{arith}
-use lib.ListN.{length, drop, getD}
+use lib.ListN.{length, getD}
 use Rattle.ump.specs.Word.{octet, word}
 use Rattle.ump.specs.Packet.{sysex8, groupAt, idAt}
 use Rattle.ump.specs.Packing.{wordsFor, pack}
@@ -12,7 +12,7 @@ use Rattle.ump.specs.Splice.{spliced, rewritten}
 use Rattle.ump.proofs.Packing.{length-pack}
 use Rattle.splice.specs.Passed.{Passed, Full}
 use Rattle.splice.specs.Seam.{seam, zeroed}
-use Rattle.splice.specs.Splices.{Sized, Ready, newSize, headed, target}
+use Rattle.splice.specs.Splices.{Ready, newSize, headed, target}
 use Rattle.splice.specs.declared.splicing.Plan.{Plan}
 use Rattle.splice.proofs.Numbers.{words-number}
 use Rattle.splice.proofs.Messages.{inside, end-fits}

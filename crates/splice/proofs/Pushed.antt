@@ -6,7 +6,7 @@ use Prim.Native.Nat.{ℕ, zero, suc, _+_, _-_, _*_, _/_, _%_, _^_, _≤_, _<_}
 use native.Mathlib.Numerals.{add-one}
 use native.Mathlib.Omega.{arith}
 use lib.Dec.{eqb}
-use lib.ListN.{length, take, drop, getD, set, length-append, length-drop, List·getD-append}
+use lib.ListN.{length, drop, getD, set, length-append, length-drop, List·getD-append}
 use lib.Pow.{pow-pos, pow-mono, pow-add}
 use borrow.Author.Tests.{eq-eqb, ne-eqb, eqb-true, eqb-false}
 use Rattle.ump.specs.Word.{word}
@@ -18,7 +18,6 @@ use Rattle.splice.specs.Header.{headOf}
 use Rattle.splice.specs.Places.{place}
 use Rattle.splice.specs.Pushing.{pushWord, pushWords, pushOctets}
 use Rattle.splice.specs.Seam.{seam}
-use Rattle.splice.proofs.Numbers.{words-number}
 use Rattle.splice.proofs.Standing.{place-is, place-16, next-word, next-octet, before-word, word-begins}
 use Rattle.splice.proofs.Messages.{head-word}
 use Rattle.splice.proofs.Seams.{length-seam, seam-from, seam-up}

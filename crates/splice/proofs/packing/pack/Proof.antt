@@ -1,14 +1,9 @@
 -- `pack` meets its contract: what is read has not been stored to yet, since the packed places stand no later. Assumes nothing.
-use mathlib.Core.Path.{_≡_, refl, sym, ap, _∙_, subst}
-use mathlib.Core.List.{List}
-use Prim.Native.Nat.{ℕ, _+_, _-_, _*_, _/_, _%_, _^_, _<_}
+use mathlib.Core.Path.{_∙_}
+use Prim.Native.Nat.{_+_, _-_, _*_, _/_, _^_, _<_}
 use native.Mathlib.Omega.{arith}
 use lib.ListN.{getD}
 use borrow.Author.Needs.{needs}
-use Rattle.ump.specs.Check.{payloadOf}
-use Rattle.splice.specs.Passed.{Passed}
-use Rattle.splice.specs.Pushing.{pushWords, pushOctets}
-use Rattle.splice.specs.Seam.{zeroed}
 use Rattle.splice.proofs.Messages.{inside, counts}
 use Rattle.splice.proofs.Packs.{Bounds, bounds, Packs, pack-start, nearer, pad-step, skip-here, skip-first, skip-step, byte-step, pack-end}
 use Rattle.splice.proofs.packing.pack.Statement.{statement}

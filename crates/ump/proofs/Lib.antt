@@ -16,3 +16,4 @@ pub mod NotEmpty
 pub mod Setting
 pub mod Reading
 pub mod Streaming
+pub mod Payload

@@ -108,3 +108,8 @@ module _ {A : Type 0} (alone begin inner last : A) (n p : ℕ) where
 
   pub place-inner : n ≢ 1 → p ≢ 0 → suc p ≢ n → byPlace alone begin inner last n p ≡ inner
   place-inner a b c = rw (ne-eqb n 1 a, ne-eqb p 0 b, ne-eqb (suc p) n c)
+
+-- an inner packet is a continue
+pub status-inner : (n p : ℕ) → n ≢ 1 → p ≢ 0 → suc p ≢ n → statusFor n p ≡ 2
+unfolding statusFor
+status-inner n p a b c = place-inner 0 1 2 3 n p a b c

@@ -1,0 +1,14 @@
+pub mod Numbers
+pub mod Seams
+pub mod Standing
+pub mod Messages
+pub mod Pushed
+pub mod Packs
+pub mod Fours
+pub mod NewWords
+pub mod Levels
+pub mod Targets
+pub mod Heads
+pub mod Fewest
+pub mod Plans
+pub mod Unique

@@ -1,0 +1,77 @@
+-- When a splice may begin, and what is written once it is done. Assumes nothing.
+use mathlib.Core.Path.{_≡_, refl, sym, ap, _∙_}
+use mathlib.Core.List.{List}
+use Prim.Native.Nat.{ℕ, _+_, _*_, _/_, _^_, _≤_, _<_}
+use native.Mathlib.Omega.{arith}
+use lib.ListN.{length, getD}
+use Rattle.ump.specs.Word.{octet, word}
+use Rattle.ump.specs.Packet.{sysex8, groupAt, idAt}
+use Rattle.ump.specs.Packing.{wordsFor, pack}
+use Rattle.ump.specs.Check.{payloadOf}
+use Rattle.ump.specs.Splice.{spliced, rewritten}
+use Rattle.ump.proofs.Packing.{length-pack}
+use Rattle.splice.specs.Passed.{Passed, Full}
+use Rattle.splice.specs.Seam.{seam, zeroed}
+use Rattle.splice.specs.Splices.{Ready, newSize, headed, target}
+use Rattle.splice.specs.declared.splicing.Plan.{Plan}
+use Rattle.splice.proofs.Numbers.{words-number}
+use Rattle.splice.proofs.Messages.{inside, end-fits}
+use Rattle.splice.proofs.Seams.{zeroed-is-stored}
+use Rattle.splice.proofs.Targets.{words-new}
+use Rattle.splice.proofs.Heads.{heads-done}
+use Rattle.splice.proofs.Fewest.{packedWords, length-packed-words, packed-passed, packed-group, packed-id, packed-payload, packed-full, packed-again}
+
+pub ready-when : (w r : List ℕ) (plan : Plan) → Passed w (plan .length) (plan .size) → Full w (plan .length)
+    → plan .from ≤ plan .to → plan .to ≤ plan .size → plan .total ≡ newSize (plan .size) (plan .from) (plan .to) r
+    → plan .end ≡ wordsFor sysex8 (plan .total) → plan .end ≤ length w
+    → plan .base ≡ word (80 + groupAt sysex8 w 0) 0 (octet (getD w 0 0) 2) 0 → Ready w r plan
+ready-when w r plan ok full forward within grown ends fits shared = record {
+  sizes = record {
+    forward = forward;
+    inside = within;
+    grown = omega arith;
+    ends = ends ∙ words-number (plan .total);
+    fits = fits;
+    held = end-fits w (plan .length) (plan .size) ok;
+    lent = inside w (plan .length) (plan .size) ok .0;
+    small = inside w (plan .length) (plan .size) ok .1 .0;
+    base-fits = omega (arith, shared);
+  };
+  passed = ok;
+  full = full;
+  shared = shared;
+}
+
+module _ (w r : List ℕ) (plan : Plan) (ready : Ready w r plan) (small : (k : ℕ) → getD w k 0 < 2 ^ 32) where
+  abbrev new : List ℕ
+  new = spliced (payloadOf sysex8 w (plan .length)) (plan .from) (plan .to) r
+
+  target-stored : zeroed (target w r plan) (plan .end) (plan .length) ≡ rewritten sysex8 w (plan .length) new
+  unfolding target rewritten
+  target-stored =
+      zeroed-is-stored (pack sysex8 (groupAt sysex8 w 0) (idAt sysex8 w 0) new) w (plan .length) (plan .end)
+      (length-pack sysex8 (groupAt sysex8 w 0) (idAt sysex8 w 0) new refl ∙ words-new w r plan ready)
+
+  pub splice-done : (a b c : List ℕ) → a ≡ seam (4 * (plan .from / 13)) w (target w r plan) → b ≡ headed a plan → c ≡ zeroed b (plan .end) (plan .length)
+      → c ≡ rewritten sysex8 w (plan .length) new
+  splice-done a b c ea eb ec =
+      let e : b ≡ target w r plan = eb ∙ ap (λ (l : List ℕ). headed l plan) ea ∙ heads-done w r plan ready small in
+      ec ∙ ap (λ (l : List ℕ). zeroed l (plan .end) (plan .length)) e ∙ target-stored
+
+-- after packing
+module _ (w r us : List ℕ) (len n packed : ℕ) (ok : Passed w len n) (length-is : packed ≡ wordsFor sysex8 n) (words-are : us ≡ rewritten sysex8 w len (payloadOf sysex8 w len)) where
+  pub ready-packed : (plan : Plan) → plan .length ≡ packed → plan .size ≡ n
+      → plan .from ≤ plan .to → plan .to ≤ plan .size → plan .total ≡ newSize (plan .size) (plan .from) (plan .to) r
+      → plan .end ≡ wordsFor sysex8 (plan .total) → plan .end ≤ length w
+      → plan .base ≡ word (80 + groupAt sysex8 w 0) 0 (octet (getD w 0 0) 2) 0 → Ready us r plan
+  ready-packed plan el en forward within grown ends fits shared =
+      let id : octet (getD us 0 0) 2 ≡ octet (getD w 0 0) 2 = rw words-are (ap (λ (l : List ℕ). getD l 0 0) (packed-id w len n ok)) in
+      ready-when us r plan (rw (el, en, length-is, words-are) (packed-passed w len n ok)) (rw (el, length-is, words-are) (packed-full w len n ok)) forward within grown ends
+      (rw (words-are, length-packed-words w len n ok) fits)
+      (shared ∙ sym (rw (id, words-are, packed-group w len n ok) refl))
+
+  pub packed-spliced : (from to : ℕ) → rewritten sysex8 us packed (spliced (payloadOf sysex8 us packed) from to r) ≡ rewritten sysex8 w len (spliced (payloadOf sysex8 w len) from to r)
+  packed-spliced from to =
+      rw (length-is, words-are)
+      (ap (λ (l : List ℕ). rewritten sysex8 (packedWords w len n ok) (wordsFor sysex8 n) (spliced l from to r)) (packed-payload w len n ok)
+      ∙ packed-again w len n ok (spliced (payloadOf sysex8 w len) from to r))

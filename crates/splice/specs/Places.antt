@@ -1,0 +1,21 @@
+-- Where the payload bytes of a SysEx8 message stand that has 13 of them in every packet but the last. Assumes nothing.
+use mathlib.Core.List.{List}
+use Prim.Native.Nat.{ℕ, _+_, _-_, _*_, _/_, _%_, _^_}
+use lib.ListN.{getD}
+use Rattle.ump.specs.Word.{octet}
+
+-- the octet of byte i, counted from the message's start
+abbrev pub place : ℕ → ℕ
+place i = i + 3 * (i / 13 + 1)
+
+-- the octet after that of a byte: past the three of a header, where a packet ends
+abbrev pub next : ℕ → ℕ
+next at = at + 1 + at % 16 / 15 * 3
+
+-- byte i
+unfoldable pub byteAt : List ℕ → ℕ → ℕ
+byteAt words i = octet (getD words (place i / 4) 0) (place i % 4)
+
+-- the four octets of two words from octet i on
+abbrev pub cut : ℕ → ℕ → ℕ → ℕ
+cut first second i = (first * 4294967296 + second) / 2 ^ ((4 - i) * 8) % 4294967296

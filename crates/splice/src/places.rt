@@ -1,0 +1,84 @@
+// Where payload bytes stand.
+ghost use mathlib.Core.Path.{_≡_};
+ghost use Prim.Native.Nat.{_+_, _/_, _<_};
+ghost use lib.ListN.{length, getD};
+ghost use Rattle.ump.specs.Word.{octet, word};
+ghost use Rattle.splice.specs.Places.{place, next, byteAt, cut};
+
+// Octet `i` of a word.
+pub(crate) fn octet_of(word: u32, i: usize) -> u8
+    requires { ⌜ i < 4 ⌝ }
+    ensures { λ r. ⌜ r ≡ octet word i ⌝ }
+{
+    ((word >> ((3 - i) * 8)) % 256) as u8
+}
+
+// The word of four octets.
+pub(crate) fn word_of(a: u8, b: u8, c: u8, d: u8) -> u32
+    ensures { λ r. ⌜ r ≡ word a b c d ⌝ }
+{
+    a as u32 * 0x100_0000 + b as u32 * 0x1_0000 + c as u32 * 0x100 + d as u32
+}
+
+// The octet of the byte after the one at octet `at`.
+pub(crate) fn next_place(at: usize) -> usize
+    requires { ⌜ at < 65536 ⌝ }
+    ensures { λ r. ⌜ r ≡ next at ⌝ }
+{
+    if at % 16 == 15 {
+        return at + 4;
+    }
+    at + 1
+}
+
+// Payload byte `i` of a message that has 13 in every packet but the last.
+pub(crate) fn byte_at(words: &[u32], i: usize) -> u8
+    requires { ⌜ (i < 65536) × (place i / 4 < length (now words)) ⌝ }
+    ensures { λ r. ⌜ r ≡ byteAt (now (words .entry)) i ⌝ }
+{
+    let at = i + 3 * (i / 13 + 1);
+    octet_of(words[at / 4], at % 4)
+}
+
+// The four octets of two words from octet `i` on.
+fn cut_at(first: u32, second: u32, i: usize) -> u32
+    requires { ⌜ i < 4 ⌝ }
+    ensures { λ r. ⌜ r ≡ cut first second i ⌝ }
+{
+    let both = first as u64 * 0x1_0000_0000 + second as u64;
+    ((both >> ((4 - i) * 8)) % 0x1_0000_0000) as u32
+}
+
+// Its payload bytes `i` to `i + 3`, as a word.
+pub(crate) fn four_at(words: &[u32], i: usize) -> u32
+    requires { ⌜ (i < 65536) × (place (i + 3) / 4 < length (now words)) ⌝ }
+    ensures { λ r. ⌜ r ≡ word (byteAt (now (words .entry)) i) (byteAt (now (words .entry)) (i + 1)) (byteAt (now (words .entry)) (i + 2)) (byteAt (now (words .entry)) (i + 3)) ⌝ }
+{
+    let byte = i % 13;
+    let at = i + 3 * (i / 13 + 1);
+    let k = at / 4;
+    let first = words[k];
+    if byte < 10 {
+        if at % 4 == 0 {
+            return first;
+        }
+        return cut_at(first, words[k + 1], at % 4);
+    }
+    let second = words[k + 1] % 0x100;
+    if byte == 10 {
+        return first % 0x100_0000 * 0x100 + second;
+    }
+    let third = words[k + 2];
+    if byte == 11 {
+        return first % 0x1_0000 * 0x1_0000 + second * 0x100 + third / 0x100_0000;
+    }
+    first % 0x100 * 0x100_0000 + second * 0x1_0000 + third / 0x1_0000
+}
+
+// Bytes `i` to `i + 3` of lent ones, as a word.
+pub(crate) fn four_of(bytes: &[u8], i: usize) -> u32
+    requires { ⌜ i + 3 < length (now bytes) ⌝ }
+    ensures { λ r. ⌜ r ≡ word (getD (now (bytes .entry)) i 0) (getD (now (bytes .entry)) (i + 1) 0) (getD (now (bytes .entry)) (i + 2) 0) (getD (now (bytes .entry)) (i + 3) 0) ⌝ }
+{
+    word_of(bytes[i], bytes[i + 1], bytes[i + 2], bytes[i + 3])
+}

@@ -1,0 +1,32 @@
+-- `splice::sysex8::splice`: the check, then the splice of a message that passed. Assumes nothing.
+use borrow.Author.Needs.{needs}
+use mathlib.Core.Path.{_≡_, sym, ap, _∙_}
+use Rattle.ump.specs.Packet.{sysex8}
+use Rattle.message.specs.Meaning.{checkMeaning8}
+use Rattle.message.proofs.Checked.{taken, not-taken}
+use Rattle.splice.specs.Passed.{Passed}
+use Rattle.splice.proofs.Calls.{splice-refused}
+use Rattle.splice.proofs.sysex8.splice.Statement.{statement}
+use Rattle.splice.proofs.sysex8.splice.Tie as tie
+
+passed : (c : tie.After-checked2) → let d = c .before .before .before .before .before .before in
+    Passed (d .args .words .now) (d .args .length) (c .checked2 .given .0 .0 .size)
+passed c =
+    let m = taken sysex8 _ _ (sym (c .before .before .check .ensures) ∙ ap checkMeaning8 (c .checked2 .given .1)) in
+    record { passes = m .passes; sized = m .sized }
+
+returns : tie.Need-returns
+returns c = splice-refused _ _ (not-taken sysex8 _ _ (sym (c .before .before .before .check .ensures) ∙ ap checkMeaning8 (c .before .checked .given .1))) _ _ _
+
+pub splice-spec : {M : Type 1} → statement M
+splice-spec =
+    tie.close
+    (tie.spec
+    (λ c κs. search needs)
+    (λ c. search needs)
+    (λ c. search needs)
+    (λ c κs. passed (c .before .before))
+    (λ c. search needs)
+    returns
+    (λ c. search needs)
+    (λ c. c .before .before .splice-passed .ensures))

@@ -3,9 +3,8 @@ use mathlib.Core.Path.{_≡_}
 use mathlib.Core.Bool.{true, not}
 use Prim.Native.Nat.{ℕ}
 use lib.Dec.{T, eqb}
-use contract.Lifetimes.{Lfts}
 use Rattle.refusal.specs.Answer.{Answer}
-use Rattle.refusal.proofs.Tight.{differ, told}
+use Rattle.refusal.proofs.Tight.{Shuts, differ, told}
 use Rattle.refusal.specs.declared.Fault.{Fault}
 use Rattle.refusal.specs.declared.Refusal.the-variants.{Range, Field}
 use Rattle.refusal.specs.declared.ByteRead.the-variants as byte-read
@@ -25,10 +24,6 @@ use Rattle.bit_ops.proofs.octet.Reads as octet
 use Rattle.bit_ops.proofs.set_octet.Reads as set-octet
 use Rattle.bit_ops.proofs.word.Reads as word
 use Rattle.bit_ops.proofs.set_word.Reads as set-word
-
--- a promise refuses this answer to these arguments
-abbrev Shuts : {A X : Type 0} {S : Lfts 0 → Type 0} → ((κs : Lfts 0) → A → X → S κs → Type 0) → A → X → Type 0
-Shuts {S = S} P a x = (κs : Lfts 0) (s : S κs) → P κs a x s → ⊥
 
 -- two answers differ by their value or refusal
 wrong : {x y : Answer ℕ} → T (not (eqb (told (λ v. v) x) (told (λ v. v) y))) → x ≡ y → ⊥

@@ -38,6 +38,10 @@ abbrev pub ShutOut : (n : ℕ) (ps : List (PK n)) (r : RK n) → Out n ps r
     → ((κs : Lfts n) → Dens κs ps → resT r κs .Denot → AtExit (endedOf n ps r) κs → Type 0) → Type 0
 ShutOut n ps r P Wrong = (κs : Lfts n) (a : Dens κs ps) (x : resT r κs .Denot) (s : AtExit (endedOf n ps r) κs) → Wrong κs a x s → P κs a x s → ⊥
 
+-- the same of a call that takes values alone: no such answer to these arguments
+abbrev pub Shuts : {A X : Type 0} {S : Lfts 0 → Type 0} → ((κs : Lfts 0) → A → X → S κs → Type 0) → A → X → Type 0
+Shuts {S = S} P a x = (κs : Lfts 0) (s : S κs) → P κs a x s → ⊥
+
 -- two values differ where a number of them does
 pub differ : {A : Type 0} (number : A → ℕ) {x y : A} → T (not (eqb (number x) (number y))) → x ≡ y → ⊥
 differ number {x} {y} t e = T-not (eqb (number x) (number y)) t (subst (λ (n : ℕ). T (eqb (number x) n)) (ap number e) (eqb-refl (number x)))

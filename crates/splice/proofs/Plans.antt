@@ -10,7 +10,7 @@ use Rattle.ump.specs.Packing.{wordsFor, pack}
 use Rattle.ump.specs.Check.{payloadOf}
 use Rattle.ump.specs.Splice.{spliced, rewritten}
 use Rattle.ump.proofs.Packing.{length-pack}
-use Rattle.splice.specs.Passed.{Passed, Full}
+use Rattle.splice.specs.Accepted.{Accepted, Full}
 use Rattle.splice.specs.Seam.{seam, zeroed}
 use Rattle.splice.specs.Splices.{Ready, newSize, headed, target}
 use Rattle.splice.specs.declared.splicing.Plan.{Plan}
@@ -21,7 +21,7 @@ use Rattle.splice.proofs.Targets.{words-new}
 use Rattle.splice.proofs.Heads.{heads-done}
 use Rattle.splice.proofs.Fewest.{packedWords, length-packed-words, packed-passed, packed-group, packed-id, packed-payload, packed-full, packed-again}
 
-pub ready-when : (w r : List ℕ) (plan : Plan) → Passed w (plan .length) (plan .size) → Full w (plan .length)
+pub ready-when : (w r : List ℕ) (plan : Plan) → Accepted w (plan .length) (plan .size) → Full w (plan .length)
     → plan .from ≤ plan .to → plan .to ≤ plan .size → plan .total ≡ newSize (plan .size) (plan .from) (plan .to) r
     → plan .end ≡ wordsFor sysex8 (plan .total) → plan .end ≤ length w
     → plan .base ≡ word (80 + groupAt sysex8 w 0) 0 (octet (getD w 0 0) 2) 0 → Ready w r plan
@@ -59,7 +59,7 @@ module _ (w r : List ℕ) (plan : Plan) (ready : Ready w r plan) (small : (k : �
       ec ∙ ap (λ (l : List ℕ). zeroed l (plan .end) (plan .length)) e ∙ target-stored
 
 -- after packing
-module _ (w r us : List ℕ) (len n packed : ℕ) (ok : Passed w len n) (length-is : packed ≡ wordsFor sysex8 n) (words-are : us ≡ rewritten sysex8 w len (payloadOf sysex8 w len)) where
+module _ (w r us : List ℕ) (len n packed : ℕ) (ok : Accepted w len n) (length-is : packed ≡ wordsFor sysex8 n) (words-are : us ≡ rewritten sysex8 w len (payloadOf sysex8 w len)) where
   pub ready-packed : (plan : Plan) → plan .length ≡ packed → plan .size ≡ n
       → plan .from ≤ plan .to → plan .to ≤ plan .size → plan .total ≡ newSize (plan .size) (plan .from) (plan .to) r
       → plan .end ≡ wordsFor sysex8 (plan .total) → plan .end ≤ length w

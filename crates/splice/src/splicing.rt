@@ -8,7 +8,7 @@ ghost use Rattle.ump.specs.Packet.{sysex8};
 ghost use Rattle.ump.specs.Packing.{wordsFor};
 ghost use Rattle.ump.specs.Check.{payloadOf};
 ghost use Rattle.ump.specs.Splice.{spliced, rewritten};
-ghost use Rattle.splice.specs.Passed.{Passed, Full};
+ghost use Rattle.splice.specs.Accepted.{Accepted, Full};
 ghost use Rattle.splice.specs.Seam.{seam};
 ghost use Rattle.splice.specs.Splices.{Sized, Ready, Possible, newSize, newByte, newWord, headed, target};
 use super::header::base_of;
@@ -186,7 +186,7 @@ fn splice_full(words: &mut [u32], replacement: &[u8], plan: Plan)
 
 // Whether every packet but the last is full: only then do the others carry as much as they can.
 fn is_full(words: &[u32], length: usize, size: usize) -> bool
-    requires { ⌜ Passed (now words) length size ⌝ }
+    requires { ⌜ Accepted (now words) length size ⌝ }
     ensures { λ r. ⌜ (r ≡ true → Full (now (words .entry)) length) ⌝ }
 {
     let last = carried_by(words[length - 4]);

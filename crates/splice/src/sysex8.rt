@@ -7,7 +7,7 @@ ghost use Rattle.ump.specs.Packet.{sysex8};
 ghost use Rattle.ump.specs.Packing.{wordsFor};
 ghost use Rattle.ump.specs.Splice.{repack as repackOf, splice as spliceOf, setPayload as setPayloadOf};
 ghost use Rattle.splice.specs.Meaning.{repackedMeaning, splicedMeaning};
-ghost use Rattle.splice.specs.Passed.{Passed};
+ghost use Rattle.splice.specs.Accepted.{Accepted};
 ghost use Rattle.refusal.specs.Answer.{refused};
 ghost use Rattle.refusal.specs.Number.{numberOf};
 use message::sysex8::Checked;
@@ -89,7 +89,7 @@ fn splice_passed(
     to: usize,
     replacement: &[u8],
 ) -> Spliced
-    requires { ⌜ Passed (now words) length size ⌝ }
+    requires { ⌜ Accepted (now words) length size ⌝ }
     ensures { λ r. ⌜ (splicedMeaning r, now (words .exit)) ≡ spliceOf sysex8 (now (words .entry)) length from to (now (replacement .entry)) ⌝ }
 {
     if to < from {

@@ -1,18 +1,17 @@
 -- `splice::sysex8::repack`: the check, Spread, Room, and the core. Assumes nothing.
 use borrow.Author.Needs.{needs}
-use mathlib.Core.Path.{_≡_, sym, ap, ap₂, _∙_}
-use native.Mathlib.Omega.{arith}
+use mathlib.Core.Path.{sym, ap, ap₂, _∙_}
 use Rattle.refusal.specs.Answer.{gives}
 use Rattle.ump.specs.Packet.{sysex8}
 use Rattle.message.specs.Meaning.{checkMeaning8}
 use Rattle.message.proofs.Checked.{taken, not-taken}
-use Rattle.splice.specs.Passed.{Passed}
+use Rattle.splice.specs.Accepted.{Accepted}
 use Rattle.splice.proofs.Calls.{repack-spread, repack-room, repack-done, repack-refused}
 use Rattle.splice.proofs.sysex8.repack.Statement.{statement}
 use Rattle.splice.proofs.sysex8.repack.Tie as tie
 
 passed : (c : tie.After-checked2) → let d = c .before .before .before .before .before in
-    Passed (d .args .words .now) (d .args .length) (c .checked2 .given .0 .0 .size)
+    Accepted (d .args .words .now) (d .args .length) (c .checked2 .given .0 .0 .size)
 passed c =
     let m = taken sysex8 _ _ (sym (c .before .before .check .ensures) ∙ ap checkMeaning8 (c .checked2 .given .1)) in
     record { passes = m .passes; sized = m .sized }

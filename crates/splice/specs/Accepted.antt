@@ -8,7 +8,7 @@ use Rattle.ump.specs.Packet.{sysex8, sizeAt}
 use Rattle.ump.specs.Check.{check, payloadOf}
 
 -- the message in the first len words passes, and its payload is of this size
-pub record Passed (words : List ℕ) (len size : ℕ) : Type 0 where
+pub record Accepted (words : List ℕ) (len size : ℕ) : Type 0 where
   pub passes : check sysex8 words len ≡ pass
   pub sized : size ≡ length (payloadOf sysex8 words len)
 

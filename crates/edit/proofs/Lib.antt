@@ -6,3 +6,4 @@ pub mod Passes
 pub mod Once
 pub mod Unique
 pub mod ShutOut
+pub mod Demand

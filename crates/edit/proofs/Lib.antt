@@ -6,4 +6,5 @@ pub mod Passes
 pub mod Once
 pub mod Unique
 pub mod ShutOut
+pub mod Worker
 pub mod Demand

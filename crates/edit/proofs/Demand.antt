@@ -4,7 +4,7 @@ use mathlib.Core.Path.{_≡_, refl, sym, ap, _∙_, subst}
 use mathlib.Core.Logic.{_≢_}
 use mathlib.Core.Bool.{Bool, true, false, _||_}
 use mathlib.Core.List.{List, [], _∷_}
-use Prim.Native.Nat.{ℕ, zero, suc, _+_, _≤_, _<_}
+use Prim.Native.Nat.{ℕ, _+_, _≤_, _<_}
 use native.Mathlib.Nat.{le-trans}
 use native.Mathlib.Omega.{arith}
 use lib.Dec.{eqb, ltb}
@@ -84,11 +84,11 @@ module _ (g : ℕ) (id p : List ℕ) (size : ℕ) (es : List Patch) (a : Apart e
   small = let n = length p + allBytes es in omega (arith, packets-enough sysex8 n)
 
   -- where ds are done and these are left, in this order
-  record At (ds order : List ℕ) (held : Held) : Type 0 where
-    holds : Holds sysex8 g id (mixed p es ds) size (held .words) (held .length)
-    ranges : (k : ℕ) → elem k order ≡ true → rangeMeaning (held .range k) ≡ rangeNow es ds k
-    each : Order (length es) order
-    left : (k : ℕ) → elem k order ≡ true → elem k ds ≡ false
+  pub record At (ds order : List ℕ) (held : Held) : Type 0 where
+    pub holds : Holds sysex8 g id (mixed p es ds) size (held .words) (held .length)
+    pub ranges : (k : ℕ) → elem k order ≡ true → rangeMeaning (held .range k) ≡ rangeNow es ds k
+    pub each : Order (length es) order
+    pub left : (k : ℕ) → elem k order ≡ true → elem k ds ≡ false
 
   abbrev Took : List ℕ → Spliced → List ℕ → Type 0
   Took ds (spliced.Done change) words = Fewest g id (mixed p es ds) size words (change .length)
@@ -102,10 +102,10 @@ module _ (g : ℕ) (id p : List ℕ) (size : ℕ) (es : List Patch) (a : Apart e
     fresh-i : elem i ds ≡ false
     fresh-i = at .left i (elem-same i order)
 
-    range-i : rangeMeaning (held .range i) ≡ rangeNow es ds i
+    pub range-i : rangeMeaning (held .range i) ≡ rangeNow es ds i
     range-i = at .ranges i (elem-same i order)
 
-    packed : Packed sysex8 g id (mixed p es (i ∷ ds)) size
+    pub packed : Packed sysex8 g id (mixed p es (i ∷ ds)) size
         (ump.splice sysex8 (held .words) (held .length) (moved es ds i (patchAt es i .from)) (moved es ds i (patchAt es i .to)) (patchAt es i .bytes))
     packed =
         let l = at .each .0 in
@@ -131,9 +131,13 @@ module _ (g : ℕ) (id p : List ℕ) (size : ℕ) (es : List Patch) (a : Apart e
             let l : change .length ≡ wordsFor sysex8 (length (mixed p es (i ∷ ds))) = ap given (q .accepted) in
             record { length-is = l; packed = rw l (q .fewest); holds = rw l (q .holds) }
 
-    went : (k : ℕ) → elem k order ≡ true → (answer : Moved)
-        → Moves (editOver es i (held .range i)) (editOver es k (held .range k)) (ltb i k) answer → Went (i ∷ ds) k answer
-    went k e answer m = go answer (move-plain m ∙ moved-is)
+    -- where a pending edit is to be moved to
+    pub moves-to : (k : ℕ) → elem k order ≡ true
+        → moveEdit (editMeaning (editOver es i (held .range i))) (editMeaning (editOver es k (held .range k))) (ltb i k) ≡ gives (rangeNow es (i ∷ ds) k)
+    moves-to k e =
+        rw (edit-is i (elem-same i order), edit-is k later)
+        (move-past p es a small ds i k (at .each .0) (order-below (length es) k order (at .each .2) e)
+        (not-same i k order (is-false _ (at .each .1)) e) fresh-i (at .left k later))
       where
         later : elem k (i ∷ order) ≡ true
         later = or-true (eqb k i) (elem k order) e
@@ -142,18 +146,15 @@ module _ (g : ℕ) (id p : List ℕ) (size : ℕ) (es : List Patch) (a : Apart e
         edit-is j t =
             ap (λ (r : edits.Range). record { from = r .from; to = r .to; length = length (patchAt es j .bytes) }) (at .ranges j t)
 
-        moved-is : moveEdit (editMeaning (editOver es i (held .range i))) (editMeaning (editOver es k (held .range k))) (ltb i k)
-            ≡ gives (rangeNow es (i ∷ ds) k)
-        moved-is =
-            rw (edit-is i (elem-same i order), edit-is k later)
-            (move-past p es a small ds i k (at .each .0) (order-below (length es) k order (at .each .2) e)
-            (not-same i k order (is-false _ (at .each .1)) e) fresh-i (at .left k later))
-
+    went : (k : ℕ) → elem k order ≡ true → (answer : Moved)
+        → Moves (editOver es i (held .range i)) (editOver es k (held .range k)) (ltb i k) answer → Went (i ∷ ds) k answer
+    went k e answer m = go answer (move-plain m ∙ moves-to k e)
+      where
         go : (x : Moved) → movedMeaning x ≡ gives (rangeNow es (i ∷ ds) k) → Went (i ∷ ds) k x
         go (moving.Refused fault) q = never-refused q
         go (moving.Range range) q = ap here q
 
-    next : (words : List ℕ) (len : ℕ) (range : ℕ → Range) → Holds sysex8 g id (mixed p es (i ∷ ds)) size words len
+    pub next : (words : List ℕ) (len : ℕ) (range : ℕ → Range) → Holds sysex8 g id (mixed p es (i ∷ ds)) size words len
         → ((k : ℕ) → elem k order ≡ true → Went (i ∷ ds) k (moving.Range (range k)))
         → At (i ∷ ds) order (record { words = words; length = len; range = range })
     next words len range h w =
@@ -188,10 +189,10 @@ module _ {words : List ℕ} {len : ℕ} {patches : List Patch} (fits : Fits word
   abbrev payload : List ℕ
   payload = payloadOf sysex8 words len
 
-  short : length words ≤ 16384
+  pub short : length words ≤ 16384
   short = passes-valid sysex8 words len (fits .passes) .short-enough
 
-  begins : (order : List ℕ) → Order (length patches) order
+  pub begins : (order : List ℕ) → Order (length patches) order
       → At group id payload (length words) patches (fits .apart) (fits .bytes) (fits .room) short [] order (start words len patches)
   unfolding chase
   begins order o =

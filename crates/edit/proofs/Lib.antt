@@ -8,3 +8,4 @@ pub mod Unique
 pub mod ShutOut
 pub mod Worker
 pub mod Demand
+pub mod Finishing

@@ -93,7 +93,8 @@ abbrev pub start : List ℕ → ℕ → List Patch → Held
 start words len patches =
     record { words = words; length = len; range = λ i. record { from = patchAt patches i .from; to = patchAt patches i .to } }
 
--- a valid message; at least one edit, the ranges inside its payload and apart; bytes; room for the payload beside all the bytes
+-- a valid message, in at most 16,384 words as its check says; at least one edit, the ranges inside its payload and apart; bytes;
+-- room for the payload beside all replacement bytes
 pub record Fits (words : List ℕ) (len : ℕ) (patches : List Patch) : Type 0 where
   pub passes : check sysex8 words len ≡ pass
   pub apart : Apart patches (length (payloadOf sysex8 words len))

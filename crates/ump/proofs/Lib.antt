@@ -15,3 +15,4 @@ pub mod Positions
 pub mod NotEmpty
 pub mod Setting
 pub mod Reading
+pub mod Singles

@@ -1,0 +1,4 @@
+pub mod Texts
+pub mod Decimal
+pub mod Lines
+pub mod Loading

@@ -14,7 +14,7 @@ use Rattle.ump.specs.Single.{Kind, Packet, blank, kindFor, unexpected, unexpect
 use Rattle.ump.proofs.Sizes.{size-small}
 use Rattle.ump.proofs.Checks.{passes-valid}
 use Rattle.ump.proofs.Singles.{packetAt, status-four}
-use Rattle.listing.specs.Listing.{decimal, number, statusName, idEnd, line, packetLine, twoNumbers}
+use Rattle.listing.specs.Listing.{number, statusName, idEnd, line, packetLine, twoNumbers}
 use Rattle.listing.specs.Steps.{statusOf}
 use Rattle.listing.proofs.Decimal.{length-decimal}
 

@@ -90,10 +90,14 @@ module _ (bytes words text : List ℕ) where
   unfolding list
   list-no-text g h = rw (le-ltb _ _ g, lt-ltb _ _ h)
 
+  pub list-enough : 16384 ≤ length words → 98560 ≤ length text
+      → list bytes words text ≡ (gives (length (listing bytes)), (wordsAfter (wordsIn bytes) words, over (listing bytes) text))
+  unfolding list
+  list-enough g h = rw (le-ltb _ _ g, le-ltb _ _ h)
+
   pub list-given : 16384 ≤ length words → 98560 ≤ length text → {after text′ piece : List ℕ} {size : ℕ}
       → listing bytes ≡ piece → after ≡ wordsAfter (wordsIn bytes) words → Wrote text 0 text′ size piece
       → (gives size, (after, text′)) ≡ list bytes words text
-  unfolding list
   list-given g h {after} {text′} {piece} {size} e a w =
       let n : size ≡ length piece = omega (arith, w .far) in
-      rw (le-ltb _ _ g, le-ltb _ _ h, e, a, n, wrote-front w refl)
+      rw (list-enough g h, e, a, n, wrote-front w refl)

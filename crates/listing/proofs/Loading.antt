@@ -1,14 +1,14 @@
 -- The words of the bytes: each refusal, and what a message that passes tells. Assumes nothing.
 use mathlib.Core.Path.{_≡_, refl, sym, ap, _∙_}
-use mathlib.Core.Bool.{not}
+use mathlib.Core.Bool.{Bool, true, false, cond, not, _||_}
 use mathlib.Core.List.{List}
 use Prim.Native.Nat.{ℕ, _%_, _≤_, _<_}
 use native.Mathlib.Omega.{arith}
 use borrow.Author.Tests.{lt-ltb, le-ltb, eq-eqb, ne-eqb}
 use lib.Dec.{eqb, ltb}
-use lib.ListN.{length}
+use lib.ListN.{length, drop, length-append}
 use Rattle.refusal.specs.Answer.{Answer, gives, refused, Verdict, pass, _▷_, guard}
-use Rattle.refusal.proofs.Laws.{never-refused, given-passes}
+use Rattle.refusal.proofs.Laws.{never-both, never-refused, given-passes}
 use Rattle.ump.specs.Word.{wordsOf}
 use Rattle.ump.specs.Packet.{sysex8}
 use Rattle.ump.specs.Check.{Summary, check, checked}
@@ -101,3 +101,17 @@ module _ (bytes words text : List ℕ) where
   list-given g h {after} {text′} {piece} {size} e a w =
       let n : size ≡ length piece = omega (arith, w .far) in
       rw (list-enough g h, e, a, n, wrote-front w refl)
+
+-- the text holds what the answer says
+pub listed-fits : (bytes words text after text′ : List ℕ) (size : ℕ) → (gives size, (after, text′)) ≡ list bytes words text → size ≤ length text′
+unfolding list
+listed-fits bytes words text after text′ size e = go (ltb (length words) 16384 || ltb (length text) 98560) e
+  where
+    go : (b : Bool) → _≡_ {A = Answer ℕ × (List ℕ × List ℕ)} (gives size, (after, text′))
+        (cond b (refused 14 0, (words, text)) (gives (length (listing bytes)), (wordsAfter (wordsIn bytes) words, over (listing bytes) text)))
+        → size ≤ length text′
+    go true f = never-both (ap (λ o. o .0) f)
+    go false f =
+        let n : size ≡ length (listing bytes) = let z = ap (λ o. o .0) f in cc in
+        let t = ap (λ o. length (o .1 .1)) f in
+        omega (arith, n, t, length-append (listing bytes) (drop (length (listing bytes)) text))

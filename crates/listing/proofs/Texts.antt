@@ -38,9 +38,10 @@ module _ {text text′ piece : List ℕ} {at to : ℕ} (w : Wrote text at text�
       rw (← (drop-drop (length rest) to text′), e, drop-at front (drop to text) to f) (drop-drop (length rest) to text)
       in
       let i : to + length rest ≡ at + length (piece ++ rest) = omega (arith, w .far) in
+      let tail = drop (at + length (piece ++ rest)) text in
       record {
         far = v .far ∙ i;
-        text = v .text ∙ rw (before, behind, i, append-assoc, append-assoc);
+        text = v .text ∙ rw (before, behind, i) (append-assoc (take at text) piece (rest ++ tail) ∙ ap (λ (l : List ℕ). take at text ++ l) (sym (append-assoc piece rest tail)));
       }
 
   -- a text that begins with the piece

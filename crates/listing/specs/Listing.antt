@@ -46,7 +46,7 @@ number n after = decimal n ++ (after ∷ [])
 unfoldable pub idEnd : ℕ → List ℕ
 idEnd id = hexDigit (id / 16) ∷ hexDigit (id % 16) ∷ code "\n" ∷ []
 
--- status 0, 1, 2, 3
+-- status 0, 1, 2, 3, and a space
 unfoldable pub statusName : ℕ → List ℕ
 statusName zero = ascii "complete "
 statusName (suc zero) = ascii "start "
@@ -64,7 +64,7 @@ packetLine words p =
 
 -- a line of two words, each with its number
 unfoldable pub twoNumbers : List ℕ → ℕ → List ℕ → ℕ → List ℕ
-twoNumbers first m second n = first ++ (number m (code " ") ++ (second ++ number n (code "\n")))
+twoNumbers first left second right = first ++ (number left (code " ") ++ (second ++ number right (code "\n")))
 
 -- ---- the whole
 

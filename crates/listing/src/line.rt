@@ -37,14 +37,14 @@ fn put_line(text: &mut [u8], at: usize, index: usize, packet: Packet) -> usize
     ensures { λ r. ⌜ Wrote (now (text .entry)) at (now (text .exit)) r (Listing·line index (packet .group) (statusOf (kindMeaning (packet .kind))) (packet .size) (packet .id)) ⌝ }
 {
     let kind = packet.kind;
-    let group = put_number(text, at, index, b' ');
-    let status = put_number(text, group, packet.group as usize, b' ');
-    let count = put_status(text, status, kind);
-    let id = put_number(text, count, packet.size, b' ');
-    put_id(text, id, packet.id)
+    let group_at = put_number(text, at, index, b' ');
+    let status_at = put_number(text, group_at, packet.group as usize, b' ');
+    let count_at = put_status(text, status_at, kind);
+    let id_at = put_number(text, count_at, packet.size, b' ');
+    put_id(text, id_at, packet.id)
 }
 
-// Writes the line of packet `number` of a message that passed the check.
+// Writes the line of packet `number` of a message that passed the check, and so has no packet that is refused alone.
 fn put_packet(text: &mut [u8], at: usize, words: &[u32], number: usize) -> usize
     requires { ⌜ (check sysex8 (now words) (length (now words)) ≡ pass) × (number < length (now words) / 4) × (at + 24 ≤ length (now text)) ⌝ }
     ensures { λ r. ⌜ Wrote (now (text .entry)) at (now (text .exit)) r (packetLine (now (words .entry)) number) ⌝ }
@@ -73,14 +73,21 @@ fn put_packets(text: &mut [u8], at: usize, words: &[u32]) -> usize
 }
 
 // Writes a line of two words, each with its number.
-fn put_numbers(text: &mut [u8], at: usize, first: &[u8], m: usize, second: &[u8], n: usize) -> usize
-    requires { ⌜ at + length (twoNumbers (now first) m (now second) n) ≤ length (now text) ⌝ }
-    ensures { λ r. ⌜ Wrote (now (text .entry)) at (now (text .exit)) r (twoNumbers (now (first .entry)) m (now (second .entry)) n) ⌝ }
+fn put_numbers(
+    text: &mut [u8],
+    at: usize,
+    first: &[u8],
+    left: usize,
+    second: &[u8],
+    right: usize,
+) -> usize
+    requires { ⌜ at + length (twoNumbers (now first) left (now second) right) ≤ length (now text) ⌝ }
+    ensures { λ r. ⌜ Wrote (now (text .entry)) at (now (text .exit)) r (twoNumbers (now (first .entry)) left (now (second .entry)) right) ⌝ }
 {
-    let a = put_bytes(text, at, first);
-    let b = put_number(text, a, m, b' ');
-    let c = put_bytes(text, b, second);
-    put_number(text, c, n, b'\n')
+    let left_at = put_bytes(text, at, first);
+    let second_at = put_number(text, left_at, left, b' ');
+    let right_at = put_bytes(text, second_at, second);
+    put_number(text, right_at, right, b'\n')
 }
 
 // Writes the heading, a line for each packet, and the totals, of a message that passed the check.
@@ -95,7 +102,7 @@ pub(crate) fn put_message(text: &mut [u8], words: &[u32], size: usize) -> usize
 
 // Writes the line of a refusal.
 pub(crate) fn put_refusal(text: &mut [u8], checked: Checked) -> usize
-    requires { ⌜ (98560 ≤ length (now text)) ⌝ }
+    requires { ⌜ 98560 ≤ length (now text) ⌝ }
     ensures { λ r. ⌜ ((number place : ℕ) → checkMeaning8 checked ≡ refused number place → Wrote (now (text .entry)) 0 (now (text .exit)) r (refusalLine number place)) ⌝ }
 {
     let Checked::Refused(fault) = checked else {

@@ -10,10 +10,10 @@ use refusal::Fault;
 use refusal::Refusal;
 
 // The word of four bytes, highest first.
-fn word_of(a: u8, b: u8, c: u8, d: u8) -> u32
-    ensures { λ r. ⌜ r ≡ word a b c d ⌝ }
+fn word_of(first: u8, second: u8, third: u8, fourth: u8) -> u32
+    ensures { λ r. ⌜ r ≡ word first second third fourth ⌝ }
 {
-    a as u32 * 0x100_0000 + b as u32 * 0x1_0000 + c as u32 * 0x100 + d as u32
+    first as u32 * 0x100_0000 + second as u32 * 0x1_0000 + third as u32 * 0x100 + fourth as u32
 }
 
 // Stores the words of the bytes, `count` of them.
@@ -21,11 +21,11 @@ fn store_words(bytes: &[u8], words: &mut [u32], count: usize)
     requires { ⌜ (length (now bytes) ≡ 4 * count) × (count ≤ length (now words)) ⌝ }
     ensures { λ r. ⌜ now (words .exit) ≡ over (wordsOf (now (bytes .entry))) (now (words .entry)) ⌝ }
 {
-    let mut i = 0;
-    while i < count {
-        let at = 4 * i;
-        words[i] = word_of(bytes[at], bytes[at + 1], bytes[at + 2], bytes[at + 3]);
-        i += 1;
+    let mut index = 0;
+    while index < count {
+        let at = 4 * index;
+        words[index] = word_of(bytes[at], bytes[at + 1], bytes[at + 2], bytes[at + 3]);
+        index += 1;
     }
 }
 

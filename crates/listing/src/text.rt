@@ -10,12 +10,12 @@ pub(crate) fn put_bytes(text: &mut [u8], at: usize, piece: &[u8]) -> usize
     requires { ⌜ at + length (now piece) ≤ length (now text) ⌝ }
     ensures { λ r. ⌜ Wrote (now (text .entry)) at (now (text .exit)) r (now (piece .entry)) ⌝ }
 {
-    let mut i = 0;
-    while i < piece.len() {
-        text[at + i] = piece[i];
-        i += 1;
+    let mut index = 0;
+    while index < piece.len() {
+        text[at + index] = piece[index];
+        index += 1;
     }
-    at + i
+    at + index
 }
 
 // Writes the decimal digits of a number.

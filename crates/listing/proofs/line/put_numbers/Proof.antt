@@ -1,69 +1,62 @@
 -- `listing::line::put_numbers`: four pieces. Assumes nothing.
 use borrow.Author.Needs.{needs}
 use mathlib.Core.List.{List, _++_}
-use Prim.Native.Nat.{ℕ}
+use Prim.Native.Nat.{ℕ, _+_, _≤_}
+use lib.ListN.{length}
 use Rattle.listing.specs.Listing.{number, twoNumbers}
 use Rattle.listing.proofs.Texts.{room-first, room-then, wrote-then}
 use Rattle.listing.proofs.line.put_numbers.Statement.{statement}
 use Rattle.listing.proofs.line.put_numbers.Tie as tie
 
--- what stands behind the first piece, behind the next
-abbrev rest1 : ℕ → List ℕ → ℕ → List ℕ
-rest1 m second n = number m 32 ++ (second ++ number n 10)
+-- what stands behind the first piece, the second, the third
+abbrev rest3 : tie.Start → List ℕ
+rest3 s = number (s .args .right) 10
 
-abbrev rest2 : List ℕ → ℕ → List ℕ
-rest2 second n = second ++ number n 10
+abbrev rest2 : tie.Start → List ℕ
+rest2 s = s .args .second .now ++ rest3 s
+
+abbrev rest1 : tie.Start → List ℕ
+rest1 s = number (s .args .left) 32 ++ rest2 s
+
+abbrev start : tie.After-put-bytes → tie.Start
+start c = c .before .before .before .before .before
+
+-- it has room
+room1 : (c : tie.After-put-bytes) → c .put-bytes .result + length (rest1 (start c)) ≤ length (c .put-bytes .last .0)
+unfolding twoNumbers
+room1 c = room-then (c .put-bytes .ensures) (rest1 (start c)) (start c .pre)
+
+room2 : (c : tie.After-put-number) → c .put-number .result + length (rest2 (start (c .before .before .before .before))) ≤ length (c .put-number .last .0)
+room2 c = let k = c .before .before .before .before in room-then (c .put-number .ensures) (rest2 (start k)) (room1 k)
+
+room3 : (c : tie.After-put-bytes2) → let k = c .before .before .before .before .before .before .before .before in
+    c .put-bytes2 .result + length (rest3 (start k)) ≤ length (c .put-bytes2 .last .0)
+room3 c = let k = c .before .before .before .before in room-then (c .put-bytes2 .ensures) (rest3 (start (k .before .before .before .before))) (room2 k)
 
 requires : tie.Need-put-bytes-requires
 unfolding twoNumbers
-requires c κs =
-    let s = c .before .before .before .before in
-    let a = s .args in
-    room-first _ _ (a .first .now) (rest1 (a .m) (a .second .now) (a .n)) (s .pre)
+requires c κs = let s = c .before .before .before .before in room-first _ _ (s .args .first .now) (rest1 s) (s .pre)
 
 requires-2 : tie.Need-put-number-requires
-unfolding twoNumbers
-requires-2 c κs =
-    let k = c .before .before .before in
-    let s = k .before .before .before .before .before in
-    let a = s .args in
-    room-first _ _ (number (a .m) 32) (rest2 (a .second .now) (a .n)) (room-then (k .put-bytes .ensures) (rest1 (a .m) (a .second .now) (a .n)) (s .pre))
+requires-2 c κs = let k = c .before .before .before in room-first _ _ (number (start k .args .left) 32) (rest2 (start k)) (room1 k)
 
 requires-3 : tie.Need-put-bytes-requires-2
-unfolding twoNumbers
 requires-3 c κs =
-    let j = c .before .before .before in
-    let k = j .before .before .before .before in
-    let s = k .before .before .before .before .before in
-    let a = s .args in
-    let r = room-then (k .put-bytes .ensures) (rest1 (a .m) (a .second .now) (a .n)) (s .pre) in
-    room-first _ _ (a .second .now) (number (a .n) 10) (room-then (j .put-number .ensures) (rest2 (a .second .now) (a .n)) r)
-
-requires-4 : tie.Need-put-number-requires-2
-unfolding twoNumbers
-requires-4 c κs =
-    let i = c .before .before .before in
-    let j = i .before .before .before .before in
-    let k = j .before .before .before .before in
-    let s = k .before .before .before .before .before in
-    let a = s .args in
-    let r = room-then (k .put-bytes .ensures) (rest1 (a .m) (a .second .now) (a .n)) (s .pre) in
-    let q = room-then (j .put-number .ensures) (rest2 (a .second .now) (a .n)) r in
-    room-then (i .put-bytes2 .ensures) (number (a .n) 10) q
+    let k = c .before .before .before in
+    let s = start (k .before .before .before .before) in
+    room-first _ _ (s .args .second .now) (rest3 s) (room2 k)
 
 returns : tie.Need-returns
 unfolding twoNumbers
 returns c =
-    let h = c .before .before in
-    let i = h .before .before .before .before in
-    let j = i .before .before .before .before in
-    let k = j .before .before .before .before in
-    let s = k .before .before .before .before .before in
-    let a = s .args in
-    let r = room-then (k .put-bytes .ensures) (rest1 (a .m) (a .second .now) (a .n)) (s .pre) in
-    let q = room-then (j .put-number .ensures) (rest2 (a .second .now) (a .n)) r in
-    wrote-then (k .put-bytes .ensures) (s .pre)
-    (wrote-then (j .put-number .ensures) r (wrote-then (i .put-bytes2 .ensures) q (h .put-number2 .ensures)))
+    let l = c .before .before in
+    let k = l .before .before .before .before in
+    let j = k .before .before .before .before in
+    let i = j .before .before .before .before in
+    wrote-then (i .put-bytes .ensures) (start i .pre)
+    (wrote-then (j .put-number .ensures) (room1 i) (wrote-then (k .put-bytes2 .ensures) (room2 j) (l .put-number2 .ensures)))
 
 pub put-numbers-spec : {M : Type 1} → statement M
-put-numbers-spec = tie.close (tie.spec requires requires-2 requires-3 requires-4 (λ c. search needs) returns)
+put-numbers-spec =
+    tie.close
+    (tie.spec requires requires-2 requires-3 (λ c κs. room3 (c .before .before .before)) (λ c. search needs) returns)

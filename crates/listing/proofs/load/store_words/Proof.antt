@@ -13,11 +13,11 @@ use Rattle.listing.proofs.load.store_words.Statement.{statement}
 use Rattle.listing.proofs.load.store_words.Tie as tie
 
 abbrev Inv-loop : tie.InvT-loop
-Inv-loop bytes words₀ count i₀ words i =
-    (i ≤ count) × (length words ≡ length words₀) × (words ≡ take i (wordsOf bytes) ++ drop i words₀)
+Inv-loop bytes words₀ count index₀ words index =
+    (index ≤ count) × (length words ≡ length words₀) × (words ≡ take index (wordsOf bytes) ++ drop index words₀)
 
 abbrev μ-loop : tie.MeasureT-loop
-μ-loop bytes words₀ count i₀ words i = count - i
+μ-loop bytes words₀ count index₀ words index = count - index
 
 loop-again : tie.Need-loop-again Inv-loop μ-loop
 loop-again c =
@@ -25,11 +25,11 @@ loop-again c =
     let l = o .before .loop in
     let d = o .before .before .before .before in
     let b = d .args .bytes .now in
-    let h : l .i < length (wordsOf b) = rw (length-wordsOf b (d .args .count) (d .pre .0)) (o .loop-test .taken) in
-    let w : c .word-of .result ≡ getD (wordsOf b) (l .i) 0 = c .word-of .ensures ∙ sym (getD-wordsOf b (l .i) (omega (arith, d .pre .0, o .loop-test .taken))) in (
+    let h : l .index < length (wordsOf b) = rw (length-wordsOf b (d .args .count) (d .pre .0)) (o .loop-test .taken) in
+    let w : c .word-of .result ≡ getD (wordsOf b) (l .index) 0 = c .word-of .ensures ∙ sym (getD-wordsOf b (l .index) (omega (arith, d .pre .0, o .loop-test .taken))) in (
       omega (arith, o .loop-test .taken),
       length-set (l .words) _ _ ∙ l .inv .1,
-      rw (w, l .inv .2) (front-more (wordsOf b) (d .args .words .now) (l .i) h (omega (arith, d .pre .1, o .loop-test .taken))),
+      rw (w, l .inv .2) (front-more (wordsOf b) (d .args .words .now) (l .index) h (omega (arith, d .pre .1, o .loop-test .taken))),
     )
 
 returns : tie.Need-returns Inv-loop μ-loop
@@ -37,7 +37,7 @@ returns c =
     let l = c .before .loop in
     let d = c .before .before .before .before in
     let b = d .args .bytes .now in
-    let e : l .i ≡ length (wordsOf b) = sym (length-wordsOf b (d .args .count) (d .pre .0) ∙ omega (arith, l .inv .0, c .loop-test .left)) in
+    let e : l .index ≡ length (wordsOf b) = sym (length-wordsOf b (d .args .count) (d .pre .0) ∙ omega (arith, l .inv .0, c .loop-test .left)) in
     l .inv .2 ∙ rw (e, take-length)
 
 pub store-words-spec : {M : Type 1} → statement M

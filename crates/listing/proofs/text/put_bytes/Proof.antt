@@ -10,10 +10,10 @@ use Rattle.listing.proofs.text.put_bytes.Statement.{statement}
 use Rattle.listing.proofs.text.put_bytes.Tie as tie
 
 abbrev Inv-loop : tie.InvT-loop
-Inv-loop text₀ at piece i₀ text i = (i ≤ length piece) × (length text ≡ length text₀) × (text ≡ paste text₀ at piece i)
+Inv-loop text₀ at piece index₀ text index = (index ≤ length piece) × (length text ≡ length text₀) × (text ≡ paste text₀ at piece index)
 
 abbrev μ-loop : tie.MeasureT-loop
-μ-loop text₀ at piece i₀ text i = length piece - i
+μ-loop text₀ at piece index₀ text index = length piece - index
 
 loop-again : tie.Need-loop-again Inv-loop μ-loop
 loop-again c =
@@ -21,14 +21,14 @@ loop-again c =
     let a = c .before .before .before .args in (
       omega arith,
       length-set (l .text) _ _ ∙ l .inv .1,
-      rw (l .inv .2, add-one) (paste-suc (a .text .now) (a .at) (a .piece .now) (l .i) 0 (omega arith) (c .before .loop-test .taken)),
+      rw (l .inv .2, add-one) (paste-suc (a .text .now) (a .at) (a .piece .now) (l .index) 0 (omega arith) (c .before .loop-test .taken)),
     )
 
 returns : tie.Need-returns Inv-loop μ-loop
 returns c =
     let l = c .before .loop in
     let a = c .before .before .args in
-    rw (l .inv .2) (wrote-copy (a .text .now) (a .at) (a .piece .now) (l .i) (omega arith))
+    rw (l .inv .2) (wrote-copy (a .text .now) (a .at) (a .piece .now) (l .index) (omega arith))
 
 pub put-bytes-spec : {M : Type 1} → statement M
 put-bytes-spec =

@@ -65,3 +65,187 @@ module _ (old : List ℕ) (from to : ℕ) (bytes : List ℕ) (ft : from ≤ to) 
           ∙ getD-append-add bytes (drop to old) (i - (from + length bytes)) 0
           ∙ getD-drop to old (i - (from + length bytes)) 0)
       go (over l e) (over m f) (over k h) = rw (e, f, h) (List·getD-eq-default new 0 (omega (arith, new-size)))
+
+-- ---- an octet of the fewest-packet form
+
+getD-zeros : (k i : ℕ) → _≡_ {A = ℕ} (getD (replicate k 0) i 0) 0
+getD-zeros zero i = refl
+getD-zeros (suc k) zero = refl
+getD-zeros (suc k) (suc i) = getD-zeros k i
+
+getD-padded : (xs : List ℕ) (k i : ℕ) → getD (xs ++ replicate k 0) i 0 ≡ getD xs i 0
+getD-padded [] k i = getD-zeros k i
+getD-padded (x ∷ xs) k zero = refl
+getD-padded (x ∷ xs) k (suc i) = getD-padded xs k i
+
+-- octet j of packet p among all octets
+octet-of-packet : (s : Shape) (m : List ℕ) (p j : ℕ) → j < 4 * s .words → getD (octets (packet s m p)) j 0 ≡ getD (octets m) (4 * s .words * p + j) 0
+octet-of-packet s m p j h =
+    let a : ℕ = j / 4 in
+    let b : ℕ = j % 4 in
+    let e : 4 * a + b ≡ j = omega arith in
+    let l : b < 4 = omega arith in
+    let k : 4 * (s .words * p + a) + b ≡ 4 * s .words * p + j = omega (arith, mul-assoc 4 (s .words) p) in
+    ap (λ (x : ℕ). getD (octets (packet s m p)) x 0) (sym e)
+    ∙ getD-octets (packet s m p) a b l
+    ∙ ap (λ (x : ℕ). octet x b) (getD-take (s .words) (drop (s .words * p) m) a 0 (omega arith) ∙ getD-drop (s .words * p) m a 0)
+    ∙ sym (getD-octets m (s .words * p + a) b l)
+    ∙ ap (λ (x : ℕ). getD (octets m) x 0) k
+
+module _ (s : Shape) (g : ℕ) (id bs : List ℕ) (hg : g < 16) (ht : length id ≡ s .ids) (bt : Below 256 id) (bb : Below (s .limit) bs) where
+  abbrev packets : ℕ
+  packets = packetsFor s (length bs)
+
+  abbrev framed : ℕ → List ℕ
+  framed p = frame s (statusFor packets p) g id (chunk s bs p)
+
+  size-chunk : (p : ℕ) → length (chunk s bs p) ≡ min (s .room) (length bs - s .room * p)
+  size-chunk p = simp (length-take, length-drop)
+
+  frame-parts : (p : ℕ) → framed p ≡ headerOctets s g id (length bs) p ++ (chunk s bs p ++ replicate (s .room - length (chunk s bs p)) 0)
+  unfolding frame
+  frame-parts p = rw (size-chunk p)
+
+  -- the header octets are those that begin the frame of a packet
+  pub header-is : (p : ℕ) → take (header s) (framed p) ≡ headerOctets s g id (length bs) p
+  header-is p = rw (frame-parts p) (take-at (headerOctets s g id (length bs) p) _ (header s) (omega arith))
+
+  in-header : (p j : ℕ) → j < header s → getD (framed p) j 0 ≡ getD (headerOctets s g id (length bs) p) j 0
+  in-header p j h = rw (frame-parts p) (List·getD-append (headerOctets s g id (length bs) p) _ 0 j (omega arith))
+
+  in-body : (p j : ℕ) → header s ≤ j → j < 4 * s .words → getD (framed p) j 0 ≡ getD bs (s .room * p + (j - header s)) 0
+  in-body p j h l =
+      let head : List ℕ = headerOctets s g id (length bs) p in
+      let body : List ℕ = chunk s bs p ++ replicate (s .room - length (chunk s bs p)) 0 in
+      let i : ℕ = j - header s in
+      let e : j ≡ length (headerOctets s g id (length bs) p) + i = omega arith in
+      ap (λ (x : List ℕ). getD x j 0) (frame-parts p)
+      ∙ ap (λ (k : ℕ). getD (head ++ body) k 0) e
+      ∙ getD-append-add head body i 0
+      ∙ getD-padded (chunk s bs p) (s .room - length (chunk s bs p)) i
+      ∙ getD-take (s .room) (drop (s .room * p) bs) i 0 (omega (arith, s .full))
+      ∙ getD-drop (s .room * p) bs i 0
+
+  octet-of-pack : (p j : ℕ) → p < packets → j < 4 * s .words → getD (octets (pack s g id bs)) (4 * s .words * p + j) 0 ≡ getD (framed p) j 0
+  unfolding pack packsAt
+  octet-of-pack p j hp l =
+      let m : List ℕ = packs s g id packets (chunk s bs) in
+      ap (λ (x : List ℕ). getD (octets x) (4 * s .words * p + j) 0) (sym (append-nil m))
+      ∙ sym (octet-of-packet s (m ++ []) p j l)
+      ∙ ap (λ (x : List ℕ). getD (octets x) j 0) (packet-packs s g id packets (chunk s bs) ht (length-chunk s bs) [] p hp)
+      ∙ ap (λ (x : List ℕ). getD x j 0)
+      (octets-frame s (statusFor packets p) g id (chunk s bs p) (omega (arith, status-small packets p)) hg ht (length-chunk s bs p) bt (below-chunk s bs bb p))
+
+-- ---- what is known where a splice is done
+
+writes-given : {A : Type 0} (v : Verdict) (before written : List ℕ) (value : A) {x : A} {left : List ℕ} → writes v before value written ≡ (gives x, left)
+    → (v ≡ pass) × (value ≡ x) × (written ≡ left)
+writes-given {A} (gives u) before written value e = (refl, cc (ap (λ (o : Answer A × List ℕ). o .0) e), ap (λ (o : Answer A × List ℕ). o .1) e)
+writes-given {A} (refused number place) before written value e = never-refused (ap (λ (o : Answer A × List ℕ). o .0) e)
+
+guard-passed : (b : Bool) (number place : ℕ) → guard b number place ≡ pass → b ≡ false
+guard-passed true number place e = never-refused e
+guard-passed false number place e = refl
+
+-- in range and with room, and the message written is the fewest-packet form of the new payload
+record Known (s : Shape) (words : List ℕ) (len from to : ℕ) (bytes : List ℕ) (change : Spliced) (left : List ℕ) : Type 0 where
+  passes : check s words len ≡ pass
+  forward : from ≤ to
+  inside : to ≤ length (payloadOf s words len)
+  room : wordsFor s (length (spliced (payloadOf s words len) from to bytes)) ≤ length words
+  length-is : wordsFor s (length (spliced (payloadOf s words len) from to bytes)) ≡ change .length
+  left-is : rewritten s words len (spliced (payloadOf s words len) from to bytes) ≡ left
+
+known : (s : Shape) (words : List ℕ) (len from to : ℕ) (bytes : List ℕ) (change : Spliced) (left : List ℕ)
+    → splice s words len from to bytes ≡ (gives change, left) → Known s words len from to bytes change left
+unfolding splice
+known s words len from to bytes change left e =
+    let old = payloadOf s words len in
+    let new = spliced old from to bytes in
+    let w =
+    writes-given
+    (check s words len
+    ▷ guard (ltb to from || ltb (length old) to) 13 0
+    ▷ guard (ltb len (wordsFor s (length old))) 19 0
+    ▷ guard (ltb (length words) (wordsFor s (length new))) 14 0)
+    words (rewritten s words len new) (record { length = wordsFor s (length new); growth = pos (length bytes) -ℤ pos (to - from) }) e
+    in
+    let last = guard (ltb (length words) (wordsFor s (length new))) 14 0 in
+    let spread = guard (ltb len (wordsFor s (length old))) 19 0 in
+    let outside = guard (ltb to from || ltb (length old) to) 13 0 in
+    let a = pass-both (check s words len) (outside ▷ spread ▷ last) (w .0) in
+    let b = pass-both outside (spread ▷ last) (a .1) in
+    let c = pass-both spread last (b .1) in
+    let range = guard-passed (ltb to from || ltb (length old) to) 13 0 (b .0) in
+    record {
+      passes = a .0;
+      forward = ltb-false to from (or-left (ltb to from) (ltb (length old) to) range);
+      inside = ltb-false (length old) to (or-right (ltb to from) (ltb (length old) to) range);
+      room = ltb-false (length words) (wordsFor s (length new)) (guard-passed (ltb (length words) (wordsFor s (length new))) 14 0 (c .1));
+      length-is = ap (λ (x : Spliced). x .length) (w .1);
+      left-is = w .2;
+    }
+
+-- ---- the theorem
+
+module _ (s : Shape) (words : List ℕ) (len from to : ℕ) (bytes : List ℕ) (change : Spliced) (left : List ℕ)
+    (done : splice s words len from to bytes ≡ (gives change, left)) (small : Below (s .limit) bytes) where
+  abbrev group : ℕ
+  group = groupAt s words 0
+
+  abbrev id : List ℕ
+  id = idAt s words 0
+
+  abbrev old : List ℕ
+  old = payloadOf s words len
+
+  abbrev made : List ℕ
+  made = spliced old from to bytes
+
+  abbrev by : Numbers
+  by = record { size = length old; from = from; to = to; length = length bytes }
+
+  is : Known s words len from to bytes change left
+  is = known s words len from to bytes change left done
+
+  below-made : Below (s .limit) made
+  below-made = below-spliced (s .limit) old from to bytes (below-payload s words (len / s .words)) small
+
+  message-is : take (change .length) left ≡ pack s group id made
+  message-is =
+      rw (← (is .length-is), ← (is .left-is))
+      (rewritten-fewest s group id old (length words) words len
+      (record { valid = passes-valid s words len (is .passes); group-is = refl; id-is = refl; carries = refl; buffer = refl })
+      made below-made (is .room))
+
+  -- Each octet of the message after a splice that is done is what `originOf` says of its position.
+  pub octet-origin : (q : ℕ) → q < 4 * change .length
+      → getD (octets (take (change .length) left)) q 0 ≡ octetFrom s group id (newSize by) old bytes (originOf s by q)
+  unfolding originOf
+  octet-origin q h =
+      let whole : ℕ = 4 * s .words in
+      let p : ℕ = q / whole in
+      let j : ℕ = q % whole in
+      let some : 0 < whole = omega (arith, words-pos s) in
+      let l : j < whole = mod-lt q some in
+      let e : whole * p + j ≡ q = div-add-mod q whole in
+      let all : 4 * change .length ≡ packetsFor s (length made) * whole =
+      ap (λ (x : ℕ). 4 * x) (sym (is .length-is)) ∙ sym (mul-assoc 4 (s .words) (packetsFor s (length made))) ∙ mul-comm whole (packetsFor s (length made))
+      in
+      let hp : p < packetsFor s (length made) = div-lt-iff-lt-mul some .1 (rw all at h) in
+      ap (λ (x : List ℕ). getD (octets x) q 0) message-is
+      ∙ ap (λ (x : ℕ). getD (octets (pack s group id made)) x 0) (sym e)
+      ∙ octet-of-pack s group id made (group-fits s words 0) (length-id s words 0) (below-id s words 0) below-made p j hp l
+      ∙ go p j l (side j (header s))
+    where
+      go : (p j : ℕ) → j < 4 * s .words → Side j (header s)
+          → getD (frame s (statusFor (packetsFor s (length made)) p) group id (chunk s made p)) j 0
+          ≡ octetFrom s group id (newSize by) old bytes (cond (ltb j (header s)) (headerOctet p j) (byteOrigin by (s .room * p + (j - header s))))
+      go p j l (under k e) =
+          rw e
+          (in-header s group id made (group-fits s words 0) (length-id s words 0) (below-id s words 0) below-made p j k
+          ∙ ap (λ (n : ℕ). getD (headerOctets s group id n p) j 0) (new-size old from to bytes (is .forward) (is .inside)))
+      go p j l (over k e) =
+          rw e
+          (in-body s group id made (group-fits s words 0) (length-id s words 0) (below-id s words 0) below-made p j k l
+          ∙ byte-from old from to bytes (is .forward) (is .inside) s group id (newSize by) (s .room * p + (j - header s)))

@@ -1,7 +1,7 @@
 -- After a splice each octet of the message is what its origin says. Assumes nothing.
 use mathlib.Core.Path.{_≡_, refl, sym, ap, _∙_, subst}
 use mathlib.Core.Bool.{Bool, true, false, cond, _||_}
-use mathlib.Core.List.{List, [], _∷_, _++_, append-nil}
+use mathlib.Core.List.{List, [], _∷_, _++_, append-nil, map}
 use Prim.Native.Nat.{ℕ, zero, suc, _+_, _-_, _*_, _/_, _%_, _≤_, _<_, min}
 use native.Mathlib.Nat.{div-add-mod, mod-lt, div-lt-iff-lt-mul, mul-comm, mul-assoc}
 use native.Mathlib.Omega.{arith}
@@ -13,11 +13,12 @@ use borrow.Author.Tests.{lt-ltb, le-ltb, ltb-false}
 use Rattle.refusal.specs.Answer.{Answer, gives, refused, Verdict, pass, _▷_, guard, writes}
 use Rattle.refusal.proofs.Laws.{never-refused}
 use Rattle.ump.specs.Word.{octet, octets, wordsOf, Below}
-use Rattle.ump.specs.Packet.{Shape, header, groupAt, idAt, packet}
+use Rattle.ump.specs.Packet.{Shape, sysex8, header, groupAt, idAt, packet, joined}
 use Rattle.ump.specs.Packing.{statusFor, frame, packsAt, packs, packetsFor, wordsFor, chunk, pack}
 use Rattle.ump.specs.Check.{check, payloadOf}
 use Rattle.ump.specs.Splice.{spliced, rewritten, Spliced, splice}
 use Rattle.ump.specs.Demand.{Holds}
+use Rattle.ump.specs.Samples.{bytes6}
 use Rattle.ump.specs.Origin.{Origin, headerOctet, kept, replacement, filler, Numbers, newSize, byteOrigin, originOf, headerOctets, octetFrom, isHeader, isFiller, Carried, from-old, from-lent}
 use Rattle.ump.proofs.First.{Side, under, over, side}
 use Rattle.ump.proofs.Words.{getD-octets}
@@ -186,6 +187,36 @@ known s words len from to bytes change left e =
       left-is = w .2;
     }
 
+-- ---- an origin names a byte that is there
+
+abbrev Within : List ℕ → List ℕ → Origin → Type 0
+Within old bytes (headerOctet p j) = Unit {0}
+Within old bytes (kept i) = i < length old
+Within old bytes (replacement i) = i < length bytes
+Within old bytes filler = Unit {0}
+
+byte-within : (old : List ℕ) (from to : ℕ) (bytes : List ℕ) → from ≤ to → to ≤ length old → (i : ℕ)
+    → Within old bytes (byteOrigin (record { size = length old; from = from; to = to; length = length bytes }) i)
+unfolding byteOrigin
+byte-within old from to bytes ft tl i = go (side i from) (side i (from + length bytes)) (side i (length old - (to - from) + length bytes))
+  where
+    go : Side i from → Side i (from + length bytes) → Side i (length old - (to - from) + length bytes)
+        → Within old bytes
+        (cond (ltb i from) (kept i)
+        (cond (ltb i (from + length bytes)) (replacement (i - from))
+        (cond (ltb i (length old - (to - from) + length bytes)) (kept (to + (i - (from + length bytes)))) filler)))
+    go (under l e) y z = rw e (omega arith)
+    go (over l e) (under m f) z = rw (e, f) (omega arith)
+    go (over l e) (over m f) (under k h) = rw (e, f, h) (omega arith)
+    go (over l e) (over m f) (over k h) = rw (e, f, h) tt
+
+carried-by : (s : Shape) (g : ℕ) (id : List ℕ) (n : ℕ) (old bytes : List ℕ) (o : Origin) (x : ℕ) → x ≡ octetFrom s g id n old bytes o
+    → Within old bytes o → isHeader o ≡ false → isFiller o ≡ false → Carried old bytes x
+carried-by s g id n old bytes (headerOctet p j) x e w h f = let z : _≡_ {A = ℕ} 0 1 = cc in absurd (omega arith)
+carried-by s g id n old bytes (kept i) x e w h f = from-old i w e
+carried-by s g id n old bytes (replacement i) x e w h f = from-lent i w e
+carried-by s g id n old bytes filler x e w h f = let z : _≡_ {A = ℕ} 0 1 = cc in absurd (omega arith)
+
 -- ---- the theorem
 
 module _ (s : Shape) (words : List ℕ) (len from to : ℕ) (bytes : List ℕ) (change : Spliced) (left : List ℕ)
@@ -249,3 +280,40 @@ module _ (s : Shape) (words : List ℕ) (len from to : ℕ) (bytes : List ℕ) (
           rw e
           (in-body s group id made (group-fits s words 0) (length-id s words 0) (below-id s words 0) below-made p j k l
           ∙ byte-from old from to bytes (is .forward) (is .inside) s group id (newSize by) (s .room * p + (j - header s)))
+
+  within : (q : ℕ) → Within old bytes (originOf s by q)
+  unfolding originOf
+  within q = go (ltb (q % (4 * s .words)) (header s))
+    where
+      go : (b : Bool)
+          → Within old bytes
+          (cond b (headerOctet (q / (4 * s .words)) (q % (4 * s .words)))
+          (byteOrigin by (s .room * (q / (4 * s .words)) + (q % (4 * s .words) - header s))))
+      go true = tt
+      go false = byte-within old from to bytes (is .forward) (is .inside) _
+
+  -- Each octet that is neither header nor filler is a byte of the old payload, or one of the bytes lent, unchanged. So the headers
+  -- and the zeros of the filler are all that the library writes of its own.
+  pub carried : (q : ℕ) → q < 4 * change .length → isHeader (originOf s by q) ≡ false → isFiller (originOf s by q) ≡ false
+      → Carried old bytes (getD (octets (take (change .length) left)) q 0)
+  carried q h a b = carried-by s group id (newSize by) old bytes (originOf s by q) _ (octet-origin q h) (within q) a b
+
+-- ---- P6: 13 bytes put in at 1 into a payload of two
+
+abbrev numbers6 : Numbers
+numbers6 = record { size = 2; from = 1; to = 1; length = 13 }
+
+abbrev origins6 : List Origin
+origins6 =
+    headerOctet 0 0 ∷ headerOctet 0 1 ∷ headerOctet 0 2 ∷ kept 0
+    ∷ replacement 0 ∷ replacement 1 ∷ replacement 2 ∷ replacement 3
+    ∷ replacement 4 ∷ replacement 5 ∷ replacement 6 ∷ replacement 7
+    ∷ replacement 8 ∷ replacement 9 ∷ replacement 10 ∷ replacement 11
+    ∷ headerOctet 1 0 ∷ headerOctet 1 1 ∷ headerOctet 1 2 ∷ replacement 12
+    ∷ kept 1 ∷ replicate 11 filler
+
+pub sample6 : (joined (λ q. originOf sysex8 numbers6 q ∷ []) 32 ≡ origins6)
+    × (map (octetFrom sysex8 2 (7 ∷ []) 15 (0x41 ∷ 0x42 ∷ []) bytes6) origins6
+    ≡ octets (0x521E0741 ∷ 0x10111213 ∷ 0x14151617 ∷ 0x18191A1B ∷ 0x5233071C ∷ 0x42000000 ∷ 0 ∷ 0 ∷ []))
+unfolding originOf byteOrigin joined octets statusFor packetsFor
+sample6 = (refl, refl)

@@ -18,3 +18,4 @@ pub mod Reading
 pub mod Streaming
 pub mod Payload
 pub mod Origins
+pub mod Counting

@@ -9,6 +9,7 @@ use lib.Dec.{ltb}
 use lib.ListN.{length, getD}
 use Rattle.ump.specs.Packet.{Shape, header}
 use Rattle.ump.specs.Packing.{statusFor, packetsFor}
+use Rattle.ump.specs.Edits.{total}
 
 pub data Origin : Type 0 where
   headerOctet : ℕ → ℕ → Origin  -- of this packet, this octet of its header
@@ -64,11 +65,27 @@ isHeader (kept i) = false
 isHeader (replacement i) = false
 isHeader filler = false
 
+abbrev pub isKept : Origin → Bool
+isKept (headerOctet p j) = false
+isKept (kept i) = true
+isKept (replacement i) = false
+isKept filler = false
+
+abbrev pub isReplacement : Origin → Bool
+isReplacement (headerOctet p j) = false
+isReplacement (kept i) = false
+isReplacement (replacement i) = true
+isReplacement filler = false
+
 abbrev pub isFiller : Origin → Bool
 isFiller (headerOctet p j) = false
 isFiller (kept i) = false
 isFiller (replacement i) = false
 isFiller filler = true
+
+-- how many of the first m octets of the new message have such an origin
+abbrev pub howMany : Shape → Numbers → (Origin → Bool) → ℕ → ℕ
+howMany shape n test m = total (λ q. cond (test (originOf shape n q)) 1 0) m
 
 -- an octet is a byte of the old payload, or one of the bytes lent, as it was
 pub data Carried (old bytes : List ℕ) (octet : ℕ) : Type 0 where

@@ -1,8 +1,8 @@
 -- How many octets of a spliced message have each origin. Assumes nothing.
 use mathlib.Core.Path.{_≡_, refl, sym, ap, _∙_}
-use mathlib.Core.Bool.{Bool, true, false, cond}
-use Prim.Native.Nat.{ℕ, zero, suc, _+_, _-_, _*_, _/_, _%_, _≤_, _<_, min}
-use native.Mathlib.Nat.{add-zero, add-suc, add-assoc, mul-suc, mul-zero, mul-assoc, mul-add-div, mul-add-mod-self-left, div-eq-of-lt, mod-eq-of-lt}
+use mathlib.Core.Bool.{Bool, false, cond}
+use Prim.Native.Nat.{ℕ, zero, suc, _+_, _-_, _*_, _/_, _%_, _≤_, _<_}
+use native.Mathlib.Nat.{add-zero, add-suc, mul-suc, mul-zero, mul-assoc, mul-add-div, mul-add-mod-self-left, div-eq-of-lt, mod-eq-of-lt}
 use native.Mathlib.Omega.{arith}
 use lib.Dec.{ltb}
 use borrow.Author.Tests.{lt-ltb, le-ltb}
@@ -171,7 +171,7 @@ module _ (s : Shape) (n : Numbers) (ft : n .from ≤ n .to) (tl : n .to ≤ n .s
       ∙ omega (
         arith,
         total-zero (λ p. total (λ j. cond (test (headerOctet p j)) 1 0) (header s)) packets
-        (λ p. total-zero (λ j. cond (test (headerOctet p j)) 1 0) (header s) (λ j. rw (z p j))),
+            (λ p. total-zero (λ j. cond (test (headerOctet p j)) 1 0) (header s) (λ j. rw (z p j))),
       )
 
   -- Of the octets of the new message: so many are headers, kept bytes, replacement bytes, and filler.

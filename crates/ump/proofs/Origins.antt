@@ -1,5 +1,5 @@
 -- After a splice each octet of the message is what its origin says. Assumes nothing.
-use mathlib.Core.Path.{_≡_, refl, sym, ap, _∙_, subst}
+use mathlib.Core.Path.{_≡_, refl, sym, ap, _∙_}
 use mathlib.Core.Bool.{Bool, true, false, cond, _||_}
 use mathlib.Core.List.{List, [], _∷_, _++_, append-nil, map}
 use Prim.Native.Nat.{ℕ, zero, suc, _+_, _-_, _*_, _/_, _%_, _≤_, _<_, min}
@@ -7,17 +7,16 @@ use native.Mathlib.Nat.{div-add-mod, mod-lt, div-lt-iff-lt-mul, mul-comm, mul-as
 use native.Mathlib.Omega.{arith}
 use lib.Dec.{ltb}
 use lib.IntN.{pos, _-ℤ_}
-use lib.ListN.{length, getD, take, drop, replicate, length-append, length-take, length-drop, length-replicate, List·getD-append, List·getD-eq-default}
+use lib.ListN.{length, getD, take, drop, replicate, length-take, length-drop, List·getD-append, List·getD-eq-default}
 use lib.Seq.{getD-take, getD-drop, getD-append-add, take-at}
-use borrow.Author.Tests.{lt-ltb, le-ltb, ltb-false}
+use borrow.Author.Tests.{ltb-false}
 use Rattle.refusal.specs.Answer.{Answer, gives, refused, Verdict, pass, _▷_, guard, writes}
 use Rattle.refusal.proofs.Laws.{never-refused}
-use Rattle.ump.specs.Word.{octet, octets, wordsOf, Below}
+use Rattle.ump.specs.Word.{octet, octets, Below}
 use Rattle.ump.specs.Packet.{Shape, sysex8, header, groupAt, idAt, packet, joined}
 use Rattle.ump.specs.Packing.{statusFor, frame, packsAt, packs, packetsFor, wordsFor, chunk, pack}
 use Rattle.ump.specs.Check.{check, payloadOf}
 use Rattle.ump.specs.Splice.{spliced, rewritten, Spliced, splice}
-use Rattle.ump.specs.Demand.{Holds}
 use Rattle.ump.specs.Samples.{bytes6}
 use Rattle.ump.specs.Origin.{Origin, headerOctet, kept, replacement, filler, Numbers, newSize, byteOrigin, originOf, headerOctets, octetFrom, isHeader, isFiller, Carried, from-old, from-lent}
 use Rattle.ump.proofs.First.{Side, under, over, side}

@@ -39,7 +39,7 @@ use Rattle.edit.proofs.Worker.{Splices, Moves, Held, End, finished, sto
 
 -- ---- each promise as an equation over plain values
 
-splice-plain : {words : List ℕ} {len : ℕ} {range : Range} {bytes : List ℕ} {answer : Spliced} {left : List ℕ} → Splices words len range bytes answer left
+pub splice-plain : {words : List ℕ} {len : ℕ} {range : Range} {bytes : List ℕ} {answer : Spliced} {left : List ℕ} → Splices words len range bytes answer left
     → (splicedMeaning answer, left) ≡ ump.splice sysex8 words len (range .from) (range .to) bytes
 splice-plain s = rw (s .words-are, s .length-is, s .from-is, s .to-is, s .bytes-are, s .left-are) at (s .promise)
 

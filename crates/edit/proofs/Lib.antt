@@ -9,3 +9,4 @@ pub mod ShutOut
 pub mod Worker
 pub mod Demand
 pub mod Finishing
+pub mod Octets

@@ -18,3 +18,5 @@ pub mod Reading
 pub mod Streaming
 pub mod Payload
 pub mod Singles
+pub mod Origins
+pub mod Counting

@@ -11,3 +11,4 @@ pub mod Edits
 pub mod Demand
 pub mod Stream
 pub mod Samples
+pub mod Origin

@@ -238,6 +238,15 @@ module _ (s : Shape) (words : List ℕ) (len from to : ℕ) (bytes : List ℕ) (
   is : Known s words len from to bytes change left
   is = known s words len from to bytes change left done
 
+  pub forward : from ≤ to
+  forward = is .forward
+
+  pub inside : to ≤ length old
+  inside = is .inside
+
+  pub length-by : change .length ≡ wordsFor s (newSize by)
+  length-by = sym (is .length-is) ∙ ap (wordsFor s) (new-size old from to bytes forward inside)
+
   below-made : Below (s .limit) made
   below-made = below-spliced (s .limit) old from to bytes (below-payload s words (len / s .words)) small
 

@@ -1,6 +1,6 @@
 -- When a splice may begin, and what is written once it is done. Assumes nothing.
 use mathlib.Core.Path.{_≡_, refl, sym, ap, _∙_}
-use mathlib.Core.List.{List}
+use mathlib.Core.List.{List, []}
 use Prim.Native.Nat.{ℕ, _+_, _*_, _/_, _^_, _≤_, _<_}
 use native.Mathlib.Omega.{arith}
 use lib.ListN.{length, getD}
@@ -12,7 +12,7 @@ use Rattle.ump.specs.Splice.{spliced, rewritten}
 use Rattle.ump.proofs.Packing.{length-pack}
 use Rattle.splice.specs.Passed.{Passed, Full}
 use Rattle.splice.specs.Seam.{seam, zeroed}
-use Rattle.splice.specs.Splices.{Ready, newSize, headed, target}
+use Rattle.splice.specs.Splices.{Ready, Possible, newSize, headed, target}
 use Rattle.splice.specs.declared.splicing.Plan.{Plan}
 use Rattle.splice.proofs.Numbers.{words-number}
 use Rattle.splice.proofs.Messages.{inside, end-fits}
@@ -75,3 +75,15 @@ module _ (w r us : List ℕ) (len n packed : ℕ) (ok : Passed w len n) (length-
       rw (length-is, words-are)
       (ap (λ (l : List ℕ). rewritten sysex8 (packedWords w len n ok) (wordsFor sysex8 n) (spliced l from to r)) (packed-payload w len n ok)
       ∙ packed-again w len n ok (spliced (payloadOf sysex8 w len) from to r))
+
+-- nothing in the place of nothing
+pub nothing-size : (n : ℕ) → newSize n n n [] ≡ n
+nothing-size n = omega arith
+
+pub nothing-possible : (w : List ℕ) (len n : ℕ) → Passed w len n → Possible w [] len n n n
+nothing-possible w len n ok = record {
+  passed = ok;
+  forward = omega arith;
+  inside = omega arith;
+  room = rw (nothing-size n) (omega (arith, words-number n, end-fits w len n ok, inside w len n ok));
+}

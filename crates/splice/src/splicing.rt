@@ -202,3 +202,11 @@ pub(crate) fn splice(
     splice_full(words, replacement, plan);
     end
 }
+
+// Rewrites a valid message in fewest-packet form, and answers its length: the splice of nothing at its end.
+pub(crate) fn repack(words: &mut [u32], length: usize, size: usize) -> usize
+    requires { ⌜ Passed (now words) length size ⌝ }
+    ensures { λ r. ⌜ (r ≡ wordsFor sysex8 size) × (now (words .exit) ≡ rewritten sysex8 (now (words .entry)) length (payloadOf sysex8 (now (words .entry)) length)) ⌝ }
+{
+    splice(words, b"", length, size, size, size)
+}

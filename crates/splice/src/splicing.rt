@@ -7,7 +7,7 @@ ghost use Rattle.ump.specs.Packet.{sysex8};
 ghost use Rattle.ump.specs.Packing.{wordsFor};
 ghost use Rattle.ump.specs.Check.{payloadOf};
 ghost use Rattle.ump.specs.Splice.{spliced, rewritten};
-ghost use Rattle.splice.specs.Passed.{Passed, Full};
+ghost use Rattle.splice.specs.Passed.{Passed, Full, Filled};
 ghost use Rattle.splice.specs.Seam.{seam};
 ghost use Rattle.splice.specs.Splices.{Sized, Ready, Possible, newSize, newByte, fourOf, newWord, turnOf, headed, target};
 use super::header::base_of;
@@ -161,6 +161,17 @@ fn is_full(words: &[u32], length: usize, size: usize) -> bool
     size == 13 * (length / 4 - 1) + last
 }
 
+// Packs a valid message unless every packet but its last is full, and answers its length.
+fn fill(words: &mut [u32], length: usize, size: usize) -> usize
+    requires { ⌜ Passed (now words) length size ⌝ }
+    ensures { λ r. ⌜ Filled (now (words .entry)) length size (now (words .exit)) r ⌝ }
+{
+    if is_full(words, length, size) {
+        return length;
+    }
+    pack(words, length, size)
+}
+
 // Replaces the payload bytes `from..to` of a valid message and writes the fewest-packet form; answers its length.
 pub(crate) fn splice(
     words: &mut [u32],
@@ -173,25 +184,12 @@ pub(crate) fn splice(
     requires { ⌜ Possible (now words) (now replacement) length size from to ⌝ }
     ensures { λ r. ⌜ (r ≡ wordsFor sysex8 (newSize size from to (now (replacement .entry)))) × (now (words .exit) ≡ rewritten sysex8 (now (words .entry)) length (spliced (payloadOf sysex8 (now (words .entry)) length) from to (now (replacement .entry)))) ⌝ }
 {
+    let base = base_of(words[0]);
     let total = size - (to - from) + replacement.len();
     let end = words_needed(total);
-    let base = base_of(words[0]);
-    if is_full(words, length, size) {
-        let plan = Plan {
-            length,
-            size,
-            from,
-            to,
-            total,
-            end,
-            base,
-        };
-        splice_full(words, replacement, plan);
-        return end;
-    }
-    let packed = pack(words, length, size);
+    let filled = fill(words, length, size);
     let plan = Plan {
-        length: packed,
+        length: filled,
         size,
         from,
         to,

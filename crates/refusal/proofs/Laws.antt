@@ -4,6 +4,7 @@ use mathlib.Core.Bool.{Bool, true, false}
 use mathlib.Core.List.{List}
 use Prim.Native.Nat.{ℕ}
 use native.Mathlib.Omega.{arith}
+use Rattle.refusal.proofs.Tight.{once}
 use Rattle.refusal.specs.Answer.{Answer, gives, refused, Verdict, pass, _▷_, guard, verdict, writes}
 use Rattle.refusal.specs.Number.{numberOf, nameOf}
 use Rattle.refusal.specs.Meaning.{faultOf, storedMeaning, byteMeaning}
@@ -51,20 +52,41 @@ never-both e = let z : _≡_ {A = ℕ} 0 1 = cc in absurd (omega arith)
 pub never-refused : {A B : Type 0} {a : A} {n p : ℕ} → refused n p ≡ gives a → B
 never-refused e = never-both (sym e)
 
-pub fault-once : {A : Type 0} (f g : Fault) → faultOf {A = A} f ≡ faultOf g → f ≡ g
-fault-once f g e =
-    let n : numberOf (f .refusal) ≡ numberOf (g .refusal) = cc in
-    let p : f .place ≡ g .place = cc in
-    ap₂ (λ (r : Refusal) (p : ℕ). record { refusal = r; place = p }) (number-once (f .refusal) (g .refusal) n) p
+-- the fault of a number and place
+abbrev pub faultBack : ℕ → ℕ → Fault
+faultBack number place = record { refusal = nameOf number; place = place }
+
+pub fault-back : (f : Fault) → faultBack (numberOf (f .refusal)) (f .place) ≡ f
+fault-back f = ap (λ (r : Refusal). record { refusal = r; place = f .place }) (name-of-number (f .refusal))
+
+abbrev storedBack : Verdict → Stored
+storedBack (gives u) = stored.Done
+storedBack (refused number place) = stored.Refused (faultBack number place)
+
+stored-back : (x : Stored) → storedBack (storedMeaning x) ≡ x
+stored-back stored.Done = refl
+stored-back (stored.Refused fault) = ap stored.Refused (fault-back fault)
 
 pub stored-once : (x y : Stored) → storedMeaning x ≡ storedMeaning y → x ≡ y
-stored-once stored.Done stored.Done e = refl
-stored-once stored.Done (stored.Refused g) e = never-both e
-stored-once (stored.Refused f) stored.Done e = never-refused e
-stored-once (stored.Refused f) (stored.Refused g) e = ap stored.Refused (fault-once f g e)
+stored-once = once storedMeaning storedBack stored-back
+
+abbrev byteBack : Answer ℕ → ByteRead
+byteBack (gives value) = byte.Value value
+byteBack (refused number place) = byte.Refused (faultBack number place)
+
+byte-back : (x : ByteRead) → byteBack (byteMeaning x) ≡ x
+byte-back (byte.Value value) = refl
+byte-back (byte.Refused fault) = ap byte.Refused (fault-back fault)
 
 pub byte-once : (x y : ByteRead) → byteMeaning x ≡ byteMeaning y → x ≡ y
-byte-once (byte.Value a) (byte.Value b) e = ap byte.Value (cc)
-byte-once (byte.Value a) (byte.Refused g) e = never-both e
-byte-once (byte.Refused f) (byte.Value b) e = never-refused e
-byte-once (byte.Refused f) (byte.Refused g) e = ap byte.Refused (fault-once f g e)
+byte-once = once byteMeaning byteBack byte-back
+
+-- ---- a value after a check
+
+pub given-passes : {A : Type 0} (v : Verdict) {a b : A} → v ▷ gives a ≡ gives b → (v ≡ pass) × (a ≡ b)
+given-passes (gives u) e = (refl, cc)
+given-passes (refused n p) e = never-refused e
+
+pub refused-by : {A : Type 0} (v : Verdict) (a : A) {n p : ℕ} → v ▷ gives a ≡ refused n p → v ≡ refused n p
+refused-by (gives u) a e = never-both e
+refused-by (refused m q) a e = cc

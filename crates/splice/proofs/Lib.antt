@@ -11,4 +11,6 @@ pub mod Targets
 pub mod Heads
 pub mod Fewest
 pub mod Plans
+pub mod Calls
 pub mod Unique
+pub mod ShutOut

@@ -1,4 +1,5 @@
--- Names for what the loops leave.
+-- What the answers mean, and names for what the loops leave.
+pub mod Meaning
 pub mod Seam
 pub mod Header
 pub mod Places

@@ -1,5 +1,6 @@
 // Packing a message in its fewest-packet form, and splicing its payload, in the words where it stands.
 mod header;
-pub mod packing;
+mod packing;
 mod places;
-pub mod splicing;
+mod splicing;
+pub mod sysex8;

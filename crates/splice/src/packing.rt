@@ -15,7 +15,7 @@ use super::places::next_place;
 use super::places::octet_of;
 
 // The words that the fewest-packet form of a payload of `size` bytes takes.
-pub fn words_needed(size: usize) -> usize
+pub(crate) fn words_needed(size: usize) -> usize
     ensures { λ r. ⌜ r ≡ wordsFor sysex8 size ⌝ }
 {
     if size % 13 == 0 {

@@ -103,3 +103,27 @@ pub first-at : (f : ℕ → Bool) (n : ℕ) → first f n < n → f (first f n) 
 unfolding first
 first-at f zero h = absurd (omega arith)
 first-at f (suc n) h = at-step f n (first-at f n) (side (first f n) n) (f n) refl h
+
+-- what a loop that looks for the first knows at i: it is not past n, and the test fails at every index before it
+pub record Passed (f : ℕ → Bool) (n i : ℕ) : Type 0 where
+  pub within : i ≤ n
+  pub none : (j : ℕ) → j < i → f j ≡ false
+
+module _ {f : ℕ → Bool} {n : ℕ} where
+  pub passed-zero : Passed f n 0
+  passed-zero = record { within = omega arith; none = λ j h. absurd (omega arith) }
+
+  pub passed-one : {i : ℕ} → Passed f n i → i < n → f i ≡ false → Passed f n (i + 1)
+  passed-one {i} h l e = record { within = omega arith; none = none-more f i (h .none) e }
+
+  pub passed-end : {i : ℕ} → Passed f n i → n ≤ i → i ≡ first f n
+  passed-end {i} h l = let e : i ≡ n = omega (arith, h .within) in sym (first-is f n i (h .within) (h .none) (λ k. absurd (omega arith)))
+
+  pub passed-here : {i : ℕ} → Passed f n i → i < n → f i ≡ true → i ≡ first f n
+  passed-here {i} h l e = sym (first-is f n i (h .within) (h .none) (λ k. e))
+
+-- two tests that agree below n have one first
+pub first-cong : (f g : ℕ → Bool) (n : ℕ) → ((i : ℕ) → i < n → f i ≡ g i) → first f n ≡ first g n
+unfolding first
+first-cong f g zero h = refl
+first-cong f g (suc n) h = rw (first-cong f g n (λ i k. h i (omega arith)), h n (omega arith))

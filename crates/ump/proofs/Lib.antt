@@ -1,3 +1,4 @@
+pub mod Fields
 pub mod Words
 pub mod Joined
 pub mod Sizes
@@ -12,4 +13,7 @@ pub mod Moving
 pub mod Bytes
 pub mod Positions
 pub mod NotEmpty
+pub mod Setting
+pub mod Reading
+pub mod Streaming
 pub mod Payload

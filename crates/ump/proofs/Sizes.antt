@@ -9,7 +9,7 @@ use lib.Dec.{eqb, leb}
 use lib.Pow.{pow-pos, pow-mono}
 use borrow.Author.Tests.{le-leb, lt-leb, leb-true, eq-eqb, ne-eqb}
 use Rattle.ump.specs.Packet.{Shape, sizeOf}
-use Rattle.ump.specs.Packing.{statusFor, packetsFor, wordsFor}
+use Rattle.ump.specs.Packing.{byPlace, statusFor, packetsFor, wordsFor}
 
 module _ (s : Shape) where
   pub words-pos : 0 < s .words
@@ -83,7 +83,7 @@ module _ (s : Shape) where
   pub words-mono : (m n : ℕ) → m ≤ n → wordsFor s m ≤ wordsFor s n
   words-mono m n h = mul-le-mul-left (s .words) (packets-mono m n h)
 
--- ---- the status of a packet by its number, as a branch in the source has the cases
+-- ---- the place of a packet among several, as a branch in the source has the cases
 
 pub status-small : (n p : ℕ) → statusFor n p < 4
 unfolding statusFor
@@ -95,18 +95,21 @@ status-small n p = go (eqb n 1) (eqb p 0) (eqb (suc p) n)
     go false false true = omega arith
     go false false false = omega arith
 
-pub status-alone : (n p : ℕ) → n ≡ 1 → statusFor n p ≡ 0
-unfolding statusFor
-status-alone n p a = rw (eq-eqb n 1 a)
+-- any value that goes by a packet's place
+module _ {A : Type 0} (alone begin inner last : A) (n p : ℕ) where
+  pub place-alone : n ≡ 1 → byPlace alone begin inner last n p ≡ alone
+  place-alone a = rw (eq-eqb n 1 a)
 
-pub status-start : (n p : ℕ) → n ≢ 1 → p ≡ 0 → statusFor n p ≡ 1
-unfolding statusFor
-status-start n p a b = rw (ne-eqb n 1 a, eq-eqb p 0 b)
+  pub place-begin : n ≢ 1 → p ≡ 0 → byPlace alone begin inner last n p ≡ begin
+  place-begin a b = rw (ne-eqb n 1 a, eq-eqb p 0 b)
 
-pub status-end : (n p : ℕ) → n ≢ 1 → p ≢ 0 → suc p ≡ n → statusFor n p ≡ 3
-unfolding statusFor
-status-end n p a b c = rw (ne-eqb n 1 a, ne-eqb p 0 b, eq-eqb (suc p) n c)
+  pub place-last : n ≢ 1 → p ≢ 0 → suc p ≡ n → byPlace alone begin inner last n p ≡ last
+  place-last a b c = rw (ne-eqb n 1 a, ne-eqb p 0 b, eq-eqb (suc p) n c)
 
+  pub place-inner : n ≢ 1 → p ≢ 0 → suc p ≢ n → byPlace alone begin inner last n p ≡ inner
+  place-inner a b c = rw (ne-eqb n 1 a, ne-eqb p 0 b, ne-eqb (suc p) n c)
+
+-- an inner packet is a continue
 pub status-inner : (n p : ℕ) → n ≢ 1 → p ≢ 0 → suc p ≢ n → statusFor n p ≡ 2
 unfolding statusFor
-status-inner n p a b c = rw (ne-eqb n 1 a, ne-eqb p 0 b, ne-eqb (suc p) n c)
+status-inner n p a b c = place-inner 0 1 2 3 n p a b c

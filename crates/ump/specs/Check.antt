@@ -8,7 +8,7 @@ use lib.Dec.{eqb, ltb}
 use lib.ListN.{length}
 use Rattle.refusal.specs.Answer.{Answer, gives, Verdict, _▷_, guard}
 use Rattle.ump.specs.Packet.{Shape, typeAt, groupAt, statusAt, countAt, idAt, payload}
-use Rattle.ump.specs.Packing.{statusFor}
+use Rattle.ump.specs.Packing.{byPlace, statusFor}
 
 -- the least index below n at which a test holds; n where there is none
 unfoldable pub first : (ℕ → Bool) → ℕ → ℕ
@@ -39,9 +39,9 @@ same (x ∷ xs) (y ∷ ys) = eqb x y && same xs ys
 unfoldable pub badId : Shape → List ℕ → ℕ → Bool
 badId shape words p = not (same (idAt shape words p) (idAt shape words 0))
 
--- the number for a wrong status of packet p of n: Complete, Begin, End, Continue
-abbrev pub statusNumber : ℕ → ℕ → ℕ
-statusNumber n p = cond (eqb n 1) 6 (cond (eqb p 0) 7 (cond (eqb (suc p) n) 9 8))
+-- the number for a wrong status of packet p of n: Complete; Begin, Continue, End
+unfoldable pub statusNumber : ℕ → ℕ → ℕ
+statusNumber n p = byPlace 6 7 8 9 n p
 
 -- ---- the check
 

@@ -2,7 +2,7 @@
 -- Assumes nothing.
 use mathlib.Core.Bool.{Bool, true, false, not, cond, _||_}
 use mathlib.Core.List.{List, [], _∷_, _++_}
-use Prim.Native.Nat.{ℕ, zero, suc, _+_, _-_, _≤_, _<_}
+use Prim.Native.Nat.{ℕ, zero, suc, _+_, _-_, _*_, _/_, _%_, _≤_, _<_}
 use lib.Dec.{T, eqb, ltb}
 use lib.IntN.{ℤ, pos, _+ℤ_, _-ℤ_}
 use lib.ListN.{length, getD, take, drop}
@@ -81,8 +81,31 @@ replaced bytes patches =
     joined (λ i. slice (endBefore patches i) (patchAt patches i .from) bytes ++ patchAt patches i .bytes) (length patches)
     ++ drop (endBefore patches (length patches)) bytes
 
--- ---- all edits at once: edits, and their replacement bytes end to end
+-- ---- all edits at once: edits lent as numbers, and their replacement bytes end to end
 
+-- how many numbers an edit has: from, to and replacement length
+abbrev pub perEdit : ℕ
+perEdit = 3
+
+-- edit i of a list of numbers
+abbrev pub editIn : List ℕ → ℕ → Edit
+editIn numbers i =
+    record {
+      from = getD numbers (perEdit * i) 0;
+      to = getD numbers (perEdit * i + 1) 0;
+      length = getD numbers (perEdit * i + 2) 0;
+    }
+
+-- so many edits, from edit i on
+unfoldable pub editsFrom : List ℕ → ℕ → ℕ → List Edit
+editsFrom numbers i zero = []
+editsFrom numbers i (suc count) = editIn numbers i ∷ editsFrom numbers (suc i) count
+
+-- all edits of a list of numbers
+abbrev pub editsOf : List ℕ → List Edit
+editsOf numbers = editsFrom numbers 0 (length numbers / perEdit)
+
+-- each edit with its bytes
 abbrev pub patchesOf : List Edit → List ℕ → List Patch
 patchesOf [] bytes = []
 patchesOf (edit ∷ edits) bytes =
@@ -97,20 +120,26 @@ abbrev pub someBad : ℕ → List Edit → Bool
 someBad n [] = false
 someBad n (edit ∷ edits) = (badEdit edit || ltb n (edit .to)) || someBad n edits
 
+-- numbers that are not whole edits, an edit that is bad or past a payload of n bytes, replacement bytes that are not the sum of the
+-- lengths
+abbrev pub badList : ℕ → ℕ → List ℕ → Bool
+badList n bytes numbers =
+    not (eqb (length numbers % perEdit) 0) || (someBad n (editsOf numbers) || not (eqb bytes (lengths (editsOf numbers))))
+
 -- an edit that begins before the end of the one before it
 abbrev pub someOverlap : ℕ → List Edit → Bool
 someOverlap end [] = false
 someOverlap end (edit ∷ edits) = ltb (edit .from) end || someOverlap (edit .to) edits
 
 -- 1 to 12, Range, Overlap, Room
-unfoldable pub spliceAll : Shape → List ℕ → ℕ → List Edit → List ℕ → Answer Spliced × List ℕ
-spliceAll shape words len edits bytes =
+unfoldable pub spliceAll : Shape → List ℕ → ℕ → List ℕ → List ℕ → Answer Spliced × List ℕ
+spliceAll shape words len numbers bytes =
     let old = payloadOf shape words len in
-    let new = replaced old (patchesOf edits bytes) in
+    let new = replaced old (patchesOf (editsOf numbers) bytes) in
     writes
     (check shape words len
-    ▷ guard (someBad (length old) edits || not (eqb (length bytes) (lengths edits))) 13 0
-    ▷ guard (someOverlap 0 edits) 20 0
+    ▷ guard (badList (length old) (length bytes) numbers) 13 0
+    ▷ guard (someOverlap 0 (editsOf numbers)) 20 0
     ▷ guard (ltb (length words) (wordsFor shape (length new))) 14 0)
     words
     (record { length = wordsFor shape (length new); growth = pos (length new) -ℤ pos (length old) })

@@ -8,9 +8,13 @@ use lib.ListN.{length, take, drop, replicate}
 use Rattle.ump.specs.Word.{wordsOf}
 use Rattle.ump.specs.Packet.{Shape, joined}
 
+-- of packet p of n: one value if it stands alone, one for the first of several, for an inner one, for the last
+abbrev pub byPlace : {A : Type 0} → A → A → A → A → ℕ → ℕ → A
+byPlace alone begin inner last n p = cond (eqb n 1) alone (cond (eqb p 0) begin (cond (eqb (suc p) n) last inner))
+
 -- the status of packet p of n: complete; start, continue, end
 unfoldable pub statusFor : ℕ → ℕ → ℕ
-statusFor n p = cond (eqb n 1) 0 (cond (eqb p 0) 1 (cond (eqb (suc p) n) 3 2))
+statusFor n p = byPlace 0 1 2 3 n p
 
 -- the octets of a packet: type and group, status and count, stream id, payload, and zeros
 unfoldable pub frame : Shape → ℕ → ℕ → List ℕ → List ℕ → List ℕ

@@ -10,7 +10,7 @@ use Rattle.refusal.specs.Answer.{Answer, gives, refused}
 use Rattle.ump.specs.Word.{octets, wordsOf}
 use Rattle.ump.specs.Packet.{sysex8, sysex7, sizeOf, payloadAt, joined, payload}
 use Rattle.ump.specs.Packing.{statusFor, frame, packsAt, packs, packetsFor, pack}
-use Rattle.ump.specs.Check.{first, badType, badStatus, badCount, badGroup, badId, checkPackets, check, payloadOf, Summary, checked}
+use Rattle.ump.specs.Check.{first, badType, badStatus, badCount, badGroup, badId, statusNumber, checkPackets, check, payloadOf, Summary, checked}
 use Rattle.ump.specs.Single.{Packet, Kind, complete, end, unexpectedEnd, blank, readPacket8, readPacket7}
 use Rattle.ump.specs.Splice.{Spliced, stored, rewritten, repack, splice}
 use Rattle.ump.specs.Edits.{Patch, total, run}
@@ -81,7 +81,7 @@ pub record Samples : Type 0 where
       ≡ (gives 4, 0x30160102 ∷ 0x03040506 ∷ 0x30310700 ∷ 0 ∷ 9 ∷ [])
 
 pub samples : Samples
-unfolding toSysex7 readPacket8 readPacket7 blank run total splice repack rewritten stored checked check checkPackets badType badStatus badCount badGroup badId first payload payloadAt sizeOf octets pack packs packsAt packetsFor statusFor frame joined wordsOf
+unfolding toSysex7 readPacket8 readPacket7 blank run total splice repack rewritten stored checked check checkPackets badType badStatus badCount badGroup badId statusNumber first payload payloadAt sizeOf octets pack packs packsAt packetsFor statusFor frame joined wordsOf
 samples = record {
   P1 = refl;
   P2 = (refl, refl);

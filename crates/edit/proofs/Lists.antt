@@ -1,0 +1,204 @@
+-- A list of edits lent as numbers, passed one by one. Assumes nothing.
+use mathlib.Core.Path.{_≡_, refl, sym, ap, _∙_}
+use mathlib.Core.Bool.{Bool, true, false, not, _||_}
+use mathlib.Core.List.{List, [], _∷_}
+use Prim.Native.Nat.{ℕ, zero, suc, _+_, _-_, _/_, _%_, _≤_, _<_}
+use native.Mathlib.Numerals.{add-one}
+use native.Mathlib.Omega.{arith}
+use lib.Dec.{eqb, ltb}
+use lib.ListN.{length}
+use borrow.Author.Tests.{le-ltb, lt-ltb, ltb-false, eq-eqb, ne-eqb, eqb-true, not-false}
+use Rattle.refusal.specs.Answer.{Answer, gives, refused, _▷_, guard}
+use Rattle.refusal.proofs.Laws.{never-refused}
+use Rattle.ump.specs.Edits.{Edit, badEdit, lengths, someBad, someOverlap, perEdit, editIn, editsFrom, editsOf, badList}
+use Rattle.edit.specs.Growth.{Sound}
+use Rattle.edit.specs.Listed.{widths, sizeAfter, listed}
+use Rattle.edit.proofs.Laws.{sound-has}
+
+-- the edits from edit i on
+abbrev pub rest : List ℕ → ℕ → List Edit
+rest numbers i = editsFrom numbers i (length numbers / perEdit - i)
+
+pub rest-end : (numbers : List ℕ) (i : ℕ) → length numbers / perEdit ≤ i → rest numbers i ≡ []
+unfolding editsFrom
+rest-end numbers i h = let q : length numbers / perEdit - i ≡ 0 = omega arith in rw q
+
+pub rest-all : (numbers : List ℕ) → editsOf numbers ≡ rest numbers 0
+rest-all numbers = let q : length numbers / perEdit - 0 ≡ length numbers / perEdit = omega arith in rw q
+
+-- a test of two parts fails
+or-false : (a b : Bool) → (a || b) ≡ false → (a ≡ false) × (b ≡ false)
+or-false true b e = let z : _≡_ {A = ℕ} 0 1 = cc in absurd (omega arith)
+or-false false b e = (refl, e)
+
+pub bad-none : (n : ℕ) (e : Edit) (es : List Edit) → someBad n (e ∷ es) ≡ false → Sound e × (e .to ≤ n) × (someBad n es ≡ false)
+bad-none n e es h =
+    let p = or-false _ (someBad n es) h in
+    let q = or-false (badEdit e) _ (p .0) in
+    (sound-has e (q .0), ltb-false n (e .to) (q .1), p .1)
+
+pub overlap-none : (end : ℕ) (e : Edit) (es : List Edit) → someOverlap end (e ∷ es) ≡ false → (end ≤ e .from) × (someOverlap (e .to) es ≡ false)
+overlap-none end e es h =
+    let p = or-false (ltb (e .from) end) (someOverlap (e .to) es) h in
+    (ltb-false (e .from) end (p .0), p .1)
+
+-- ---- edit i, and those behind it
+
+module _ (numbers : List ℕ) (i : ℕ) (h : i < length numbers / perEdit) {e : Edit} (q : e ≡ editIn numbers i) where
+  pub rest-step : rest numbers i ≡ e ∷ rest numbers (i + 1)
+  unfolding editsFrom
+  rest-step =
+      let n = length numbers / perEdit - suc i in
+      let s : length numbers / perEdit - i ≡ suc n = omega arith in
+      rw (s, add-one i, q)
+
+  pub bad-here : (n : ℕ) → badEdit e ≡ true → true ≡ someBad n (rest numbers i)
+  bad-here n b = rw (rest-step, b)
+
+  pub bad-past : (n : ℕ) → badEdit e ≡ false → n < e .to → true ≡ someBad n (rest numbers i)
+  bad-past n b k = rw (rest-step, b, lt-ltb n (e .to) k)
+
+  pub bad-on : (n : ℕ) → badEdit e ≡ false → e .to ≤ n → someBad n (rest numbers i) ≡ someBad n (rest numbers (i + 1))
+  bad-on n b k = rw (rest-step, b, le-ltb n (e .to) k)
+
+  pub overlap-here : (end : ℕ) → e .from < end → true ≡ someOverlap end (rest numbers i)
+  overlap-here end k = rw (rest-step, lt-ltb (e .from) end k)
+
+  pub overlap-on : (end : ℕ) → end ≤ e .from → someOverlap end (rest numbers i) ≡ someOverlap (e .to) (rest numbers (i + 1))
+  overlap-on end k = rw (rest-step, le-ltb (e .from) end k)
+
+  pub lengths-on : lengths (rest numbers i) ≡ e .length + lengths (rest numbers (i + 1))
+  lengths-on = rw rest-step
+
+-- ---- what a loop over the edits knows at edit i
+
+-- so many bytes are left of those lent, where the lengths before edit i were taken off
+pub record Left (numbers : List ℕ) (bytes left i : ℕ) : Type 0 where
+  pub within : i ≤ length numbers / perEdit
+  pub taken : lengths (editsOf numbers) + left ≡ bytes + lengths (rest numbers i)
+
+pub left-all : (numbers : List ℕ) (bytes : ℕ) → Left numbers bytes bytes 0
+left-all numbers bytes = record { within = omega arith; taken = omega (arith, ap lengths (rest-all numbers)) }
+
+module _ {numbers : List ℕ} {bytes left i : ℕ} (l : Left numbers bytes left i) where
+  pub left-short : {e : Edit} → i < length numbers / perEdit → e ≡ editIn numbers i → left < e .length → true ≡ not (eqb bytes (lengths (editsOf numbers)))
+  left-short h q k =
+      rw (ne-eqb bytes (lengths (editsOf numbers)) (λ same. omega (arith, l .taken, lengths-on numbers i h q)))
+
+  pub left-on : {e : Edit} → i < length numbers / perEdit → e ≡ editIn numbers i → e .length ≤ left → Left numbers bytes (left - e .length) (i + 1)
+  left-on h q k = record { within = omega arith; taken = omega (arith, l .taken, lengths-on numbers i h q) }
+
+  pub left-end : length numbers / perEdit ≤ i → not (eqb left 0) ≡ not (eqb bytes (lengths (editsOf numbers)))
+  left-end h = ap not (go left (omega (arith, l .taken, ap lengths (rest-end numbers i h))))
+    where
+      go : (m : ℕ) → lengths (editsOf numbers) + m ≡ bytes → eqb m 0 ≡ eqb bytes (lengths (editsOf numbers))
+      go zero s = sym (eq-eqb bytes (lengths (editsOf numbers)) (omega arith))
+      go (suc m) s = ne-eqb (suc m) 0 (λ some. omega arith) ∙ sym (ne-eqb bytes (lengths (editsOf numbers)) (λ same. omega arith))
+
+-- so many bytes stand between the ranges before edit i, the last of which ends at `end`
+pub record Kept (numbers : List ℕ) (n kept end i : ℕ) : Type 0 where
+  pub within : i ≤ length numbers / perEdit
+  pub inside : end ≤ n
+  pub good : someBad n (rest numbers i) ≡ false
+  pub apart : someOverlap end (rest numbers i) ≡ false
+  pub between : kept + widths (editsOf numbers) ≡ end + widths (rest numbers i)
+  pub few : kept ≤ end
+
+pub kept-none : (numbers : List ℕ) (n : ℕ) → someBad n (editsOf numbers) ≡ false → someOverlap 0 (editsOf numbers) ≡ false → Kept numbers n 0 0 0
+kept-none numbers n g o =
+    let q = rest-all numbers in
+    record {
+      within = omega arith;
+      inside = omega arith;
+      good = rw q at g;
+      apart = rw q at o;
+      between = omega (arith, ap widths q);
+      few = omega arith;
+    }
+
+module _ {numbers : List ℕ} {n kept end i : ℕ} (k : Kept numbers n kept end i) where
+  module _ {e : Edit} (h : i < length numbers / perEdit) (q : e ≡ editIn numbers i) where
+    bad : Sound e × (e .to ≤ n) × (someBad n (rest numbers (i + 1)) ≡ false)
+    bad = bad-none n e (rest numbers (i + 1)) (rw (rest-step numbers i h q) at (k .good))
+
+    overlap : (end ≤ e .from) × (someOverlap (e .to) (rest numbers (i + 1)) ≡ false)
+    overlap = overlap-none end e (rest numbers (i + 1)) (rw (rest-step numbers i h q) at (k .apart))
+
+    pub kept-after : end ≤ e .from
+    kept-after = overlap .0
+
+    pub kept-inside : e .from ≤ n
+    kept-inside = omega (arith, bad .0 .forward, bad .1)
+
+    pub kept-on : Kept numbers n (kept + (e .from - end)) (e .to) (i + 1)
+    kept-on =
+        let f = bad .0 .forward in
+        let a = overlap .0 in
+        record {
+          within = omega arith;
+          inside = bad .1;
+          good = bad .2;
+          apart = overlap .1;
+          between = omega (arith, k .between, ap widths (rest-step numbers i h q));
+          few = omega (arith, k .few);
+        }
+
+  pub kept-end : length numbers / perEdit ≤ i → (n ≡ kept + (n - end) + widths (editsOf numbers))
+  kept-end h = omega (arith, k .inside, k .between, ap widths (rest-end numbers i h))
+
+-- ---- the checks of a list, case by case
+
+pub same-bytes : (bytes sum : ℕ) → not (eqb bytes sum) ≡ false → bytes ≡ sum
+same-bytes bytes sum e = eqb-true bytes sum (not-false (eqb bytes sum) e)
+
+module _ (n bytes : ℕ) (numbers : List ℕ) where
+  pub list-ragged : (length numbers % perEdit ≡ 0 → ⊥) → refused 13 0 ≡ listed n bytes numbers
+  unfolding listed
+  list-ragged a = rw (ne-eqb (length numbers % perEdit) 0 a)
+
+  module _ (a : length numbers % perEdit ≡ 0) where
+    pub list-bad : someBad n (editsOf numbers) ≡ true → refused 13 0 ≡ listed n bytes numbers
+    unfolding listed
+    list-bad b = rw (eq-eqb (length numbers % perEdit) 0 a, b)
+
+    module _ (b : someBad n (editsOf numbers) ≡ false) where
+      pub list-uneven : not (eqb bytes (lengths (editsOf numbers))) ≡ true → refused 13 0 ≡ listed n bytes numbers
+      unfolding listed
+      list-uneven c = rw (eq-eqb (length numbers % perEdit) 0 a, b, c)
+
+      module _ (c : not (eqb bytes (lengths (editsOf numbers))) ≡ false) where
+        pub list-overlap : someOverlap 0 (editsOf numbers) ≡ true → refused 20 0 ≡ listed n bytes numbers
+        unfolding listed
+        list-overlap d = rw (eq-eqb (length numbers % perEdit) 0 a, b, c, d)
+
+        pub list-given : someOverlap 0 (editsOf numbers) ≡ false → gives (sizeAfter n (editsOf numbers)) ≡ listed n bytes numbers
+        unfolding listed
+        list-given d = rw (eq-eqb (length numbers % perEdit) 0 a, b, c, d)
+
+-- the checks passed
+pub record Passing (n bytes : ℕ) (numbers : List ℕ) (size : ℕ) : Type 0 where
+  pub whole : length numbers % perEdit ≡ 0
+  pub good : someBad n (editsOf numbers) ≡ false
+  pub all-bytes : bytes ≡ lengths (editsOf numbers)
+  pub apart : someOverlap 0 (editsOf numbers) ≡ false
+  pub sized : sizeAfter n (editsOf numbers) ≡ size
+
+guard-pass : (b : Bool) (number : ℕ) (answer : Answer ℕ) {size : ℕ} → guard b number 0 ▷ answer ≡ gives size → (b ≡ false) × (answer ≡ gives size)
+guard-pass true number answer e = never-refused e
+guard-pass false number answer e = (refl, e)
+
+pub list-passes : (n bytes : ℕ) (numbers : List ℕ) {size : ℕ} → listed n bytes numbers ≡ gives size → Passing n bytes numbers size
+unfolding listed
+list-passes n bytes numbers e =
+    let given : Answer ℕ = gives (sizeAfter n (editsOf numbers)) in
+    let range = guard-pass (badList n bytes numbers) 13 (guard (someOverlap 0 (editsOf numbers)) 20 0 ▷ given) e in
+    let ragged = or-false (not (eqb (length numbers % perEdit) 0)) _ (range .0) in
+    let bad = or-false (someBad n (editsOf numbers)) _ (ragged .1) in
+    let overlap = guard-pass (someOverlap 0 (editsOf numbers)) 20 given (range .1) in
+    record {
+      whole = same-bytes _ _ (ragged .0);
+      good = bad .0;
+      all-bytes = same-bytes _ _ (bad .1);
+      apart = overlap .0;
+      sized = (cc);
+    }

@@ -1,0 +1,34 @@
+-- An answer is fixed by what it means: each meaning has a way back. Assumes nothing.
+use mathlib.Core.Path.{_≡_, refl, ap}
+use lib.IntN.{ℤ}
+use Rattle.refusal.specs.Answer.{Answer, gives, refused}
+use Rattle.refusal.proofs.Laws.{faultBack, fault-back}
+use Rattle.refusal.proofs.Tight.{once}
+use Rattle.ump.specs.Edits as ump
+use Rattle.edit.specs.Meaning.{grownMeaning, movedMeaning}
+use Rattle.edit.specs.declared.Grown.{Grown}
+use Rattle.edit.specs.declared.Grown.the-variants as grown
+use Rattle.edit.specs.declared.Moved.{Moved}
+use Rattle.edit.specs.declared.Moved.the-variants as moved
+
+abbrev grownBack : Answer ℤ → Grown
+grownBack (gives growth) = grown.By growth
+grownBack (refused number place) = grown.Refused (faultBack number place)
+
+grown-back : (x : Grown) → grownBack (grownMeaning x) ≡ x
+grown-back (grown.By growth) = refl
+grown-back (grown.Refused fault) = ap grown.Refused (fault-back fault)
+
+pub grown-once : (x y : Grown) → grownMeaning x ≡ grownMeaning y → x ≡ y
+grown-once = once grownMeaning grownBack grown-back
+
+abbrev movedBack : Answer ump.Range → Moved
+movedBack (gives r) = moved.Range (record { from = r .from; to = r .to })
+movedBack (refused number place) = moved.Refused (faultBack number place)
+
+moved-back : (x : Moved) → movedBack (movedMeaning x) ≡ x
+moved-back (moved.Range range) = refl
+moved-back (moved.Refused fault) = ap moved.Refused (fault-back fault)
+
+pub moved-once : (x y : Moved) → movedMeaning x ≡ movedMeaning y → x ≡ y
+moved-once = once movedMeaning movedBack moved-back

@@ -1,0 +1,14 @@
+-- Any two outcomes that a promise allows are equal. Assumes nothing.
+use mathlib.Core.Path.{sym, _∙_}
+use Rattle.refusal.proofs.Tight.{FixesResult}
+use Rattle.edit.proofs.Once.{grown-once, moved-once}
+use Rattle.edit.proofs.growth.Kinds as growth-kinds
+use Rattle.edit.proofs.growth.Reads as growth
+use Rattle.edit.proofs.move_edit.Kinds as move-kinds
+use Rattle.edit.proofs.move_edit.Reads as move
+
+growth-unique : FixesResult 0 growth-kinds.ps growth-kinds.r growth.Post
+growth-unique κs a x y s t p q = grown-once x y (p ∙ sym q)
+
+move-unique : FixesResult 0 move-kinds.ps move-kinds.r move.Post
+move-unique κs a x y s t p q = moved-once x y (p ∙ sym q)

@@ -1,0 +1,20 @@
+-- The checks of a list of edits lent as numbers, and the size of the result.
+-- Assumes nothing.
+use mathlib.Core.List.{List, [], _∷_}
+use Prim.Native.Nat.{ℕ, _+_, _-_}
+use Rattle.refusal.specs.Answer.{Answer, gives, _▷_, guard}
+use Rattle.ump.specs.Edits.{Edit, editsOf, lengths, badList, someOverlap}
+
+-- bytes that edits take out
+abbrev pub widths : List Edit → ℕ
+widths [] = 0
+widths (edit ∷ edits) = (edit .to - edit .from) + widths edits
+
+-- the size of a payload of n bytes with all ranges replaced
+abbrev pub sizeAfter : ℕ → List Edit → ℕ
+sizeAfter n edits = n + lengths edits - widths edits
+
+-- Range, Overlap; else the size of the result
+unfoldable pub listed : ℕ → ℕ → List ℕ → Answer ℕ
+listed n bytes numbers =
+    guard (badList n bytes numbers) 13 0 ▷ guard (someOverlap 0 (editsOf numbers)) 20 0 ▷ gives (sizeAfter n (editsOf numbers))

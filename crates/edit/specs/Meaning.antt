@@ -1,0 +1,33 @@
+-- What the records and the answers of this crate mean: document 01's number and place, or the values.
+-- Assumes nothing.
+use Prim.Native.Nat.{ℕ}
+use lib.IntN.{ℤ}
+use Rattle.refusal.specs.Answer.{Answer, gives}
+use Rattle.refusal.specs.Meaning.{faultOf}
+use Rattle.ump.specs.Edits as ump
+use Rattle.edit.specs.declared.Edit.{Edit}
+use Rattle.edit.specs.declared.Range.{Range}
+use Rattle.edit.specs.declared.Grown.{Grown}
+use Rattle.edit.specs.declared.Grown.the-variants as grown
+use Rattle.edit.specs.declared.Moved.{Moved}
+use Rattle.edit.specs.declared.Moved.the-variants as moved
+use Rattle.edit.specs.declared.listed.Listed.{Listed}
+use Rattle.edit.specs.declared.listed.Listed.the-variants as listed
+
+abbrev pub editMeaning : Edit → ump.Edit
+editMeaning edit = record { from = edit .from; to = edit .to; length = edit .length }
+
+abbrev pub rangeMeaning : Range → ump.Range
+rangeMeaning range = record { from = range .from; to = range .to }
+
+abbrev pub grownMeaning : Grown → Answer ℤ
+grownMeaning (grown.By growth) = gives growth
+grownMeaning (grown.Refused fault) = faultOf fault
+
+abbrev pub movedMeaning : Moved → Answer ump.Range
+movedMeaning (moved.Range range) = gives (rangeMeaning range)
+movedMeaning (moved.Refused fault) = faultOf fault
+
+abbrev pub listedMeaning : Listed → Answer ℕ
+listedMeaning (listed.Size size) = gives size
+listedMeaning (listed.Refused fault) = faultOf fault

@@ -1,0 +1,32 @@
+-- `message::bytes::with_octet`: the octets before, the byte, the octets after. Assumes nothing.
+use borrow.Author.Needs.{needs}
+use native.Mathlib.Omega.{arith}
+use Rattle.message.proofs.Laws.{last-of-four}
+use Rattle.message.proofs.bytes.with_octet.Statement.{statement}
+use Rattle.message.proofs.bytes.with_octet.Tie as tie
+
+returns-4 : tie.Need-returns-4
+returns-4 c =
+    let r = c .match .rest in
+    rw (last-of-four (c .before .args .octet) (c .before .pre) (r .0 .0 .1) (r .0 .1) (r .1)) (omega arith)
+
+pub with-octet-spec : {M : Type 1} → statement M
+with-octet-spec =
+    tie.close
+    (tie.spec
+    (λ c. search needs)
+    (λ c. search needs)
+    (λ c. search needs)
+    (λ c. search needs)
+    (λ c. search needs)
+    (λ c. search needs)
+    (λ c. search needs)
+    (λ c. search needs)
+    (λ c. search needs)
+    (λ c. search needs)
+    (λ c. search needs)
+    (λ c. search needs)
+    (λ c. rw (c .match .keys1) (omega arith))
+    (λ c. rw (c .match .keys2) (omega arith))
+    (λ c. rw (c .match .keys3) (omega arith))
+    returns-4)

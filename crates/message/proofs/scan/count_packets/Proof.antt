@@ -1,0 +1,21 @@
+-- `message::scan::count_packets`: each return is a case of `boundsOf`. Assumes nothing.
+use mathlib.Core.Path.{ap}
+use mathlib.Core.Bool.{not}
+use borrow.Author.Needs.{needs}
+use borrow.Author.Tests.{lt-ltb, le-ltb, eq-eqb, ne-eqb}
+use Rattle.message.specs.Scan.{boundsOf}
+use Rattle.message.proofs.scan.count_packets.Statement.{statement}
+use Rattle.message.proofs.scan.count_packets.Tie as tie
+
+pub count-packets-spec : {M : Type 1} → statement M
+unfolding boundsOf
+count-packets-spec =
+    tie.close
+    (tie.spec
+    (λ c. rw (lt-ltb _ _ (c .if1 .taken)))
+    (λ c. rw (le-ltb _ _ (c .before .if1 .left), lt-ltb _ _ (c .if2 .taken)))
+    (λ c. rw (le-ltb _ _ (c .before .before .if1 .left), le-ltb _ _ (c .before .if2 .left), lt-ltb _ _ (c .if3 .taken)))
+    (λ c. search needs)
+    (λ c. rw (le-ltb _ _ (c .before .before .before .if1 .left), le-ltb _ _ (c .before .before .if2 .left), le-ltb _ _ (c .before .if3 .left), ne-eqb _ _ (c .if4 .taken)))
+    (λ c. search needs)
+    (λ c. rw (le-ltb _ _ (c .before .before .before .if1 .left), le-ltb _ _ (c .before .before .if2 .left), le-ltb _ _ (c .before .if3 .left), eq-eqb _ _ (c .if4 .left))))

@@ -1,0 +1,71 @@
+-- `message::scan::find_fault`: each return is a stage of the check, those before it having found nothing. Assumes nothing.
+use borrow.Author.Needs.{needs}
+use mathlib.Core.Path.{_≡_, refl, sym, ap, ap₂, _∙_}
+use Prim.Native.Nat.{ℕ, _*_, _≤_, _<_}
+use native.Mathlib.Nat.{mul-le-mul-left}
+use native.Mathlib.Omega.{arith}
+use Rattle.refusal.specs.Answer.{refused}
+use Rattle.ump.specs.Check.{first}
+use Rattle.ump.proofs.First.{first-le}
+use Rattle.message.specs.Scan.{Inside}
+use Rattle.message.proofs.Laws.{begins, found-fits}
+use Rattle.message.proofs.Stages.{foreign-fault, step-fault, count-fault, group-fault, stream-fault}
+use Rattle.message.proofs.scan.find_fault.Statement.{statement}
+use Rattle.message.proofs.scan.find_fault.Tie as tie
+
+returns-2 : tie.Need-returns-2
+returns-2 c s h failed =
+    let o = c .before .before in
+    let e = o .before in
+    rw (c .status-refusal .ensures)
+    (step-fault s _ _ h (e .before .first-other .ensures) (e .if1 .left) (o .first-out-of-step .ensures) (c .before .if2 .taken))
+
+returns-3 : tie.Need-returns-3
+returns-3 c s h failed =
+    let k = c .before in
+    let o = k .before .before in
+    let e = o .before in
+    count-fault s _ _ h (e .before .first-other .ensures) (e .if1 .left) (o .first-out-of-step .ensures) (k .before .if2 .left) (k .first-bad-count .ensures) (c .if3 .taken)
+
+returns-4 : tie.Need-returns-4
+returns-4 c s h failed =
+    let g = c .before in
+    let r = g .before .before in
+    let k = r .before in
+    let o = k .before .before in
+    let e = o .before in
+    group-fault s _ _ h (e .before .first-other .ensures) (e .if1 .left) (o .first-out-of-step .ensures) (k .before .if2 .left) (k .first-bad-count .ensures) (r .if3 .left)
+    (g .first-other2 .ensures) (c .if4 .taken)
+
+returns-5 : tie.Need-returns-5
+returns-5 c s h failed =
+    let g = c .before .before in
+    let r = g .before .before in
+    let k = r .before in
+    let o = k .before .before in
+    let e = o .before in
+    stream-fault s _ _ h (e .before .first-other .ensures) (e .if1 .left) (o .first-out-of-step .ensures) (k .before .if2 .left) (k .first-bad-count .ensures) (r .if3 .left)
+    (g .first-other2 .ensures) (c .before .if4 .left) (c .first-other3 .ensures) failed
+
+pub find-fault-spec : {M : Type 1} → statement M
+find-fault-spec =
+    tie.close
+    (tie.spec
+    (λ c κs. search needs)
+    (λ c. found-fits _ (c .before .before .before .pre .0) (c .before .first-other .ensures))
+    (λ c s h failed. foreign-fault s _ _ h (c .before .first-other .ensures) (c .if1 .taken))
+    (λ c κs. search needs)
+    (λ c κs. search needs)
+    (λ c. found-fits _ (c .before .before .before .before .before .before .pre .0) (c .before .before .first-out-of-step .ensures))
+    returns-2
+    (λ c κs. search needs)
+    (λ c. found-fits _ (c .before .before .before .before .before .before .before .pre .0) (c .before .first-bad-count .ensures))
+    returns-3
+    (λ c. begins (c .before .before .before .before .before .before .before .before .pre .0) (c .before .before .before .before .before .before .before .before .pre .1))
+    (λ c κs. search needs)
+    (λ c. found-fits _ (c .before .before .before .before .before .before .before .before .before .before .pre .0) (c .before .first-other2 .ensures))
+    returns-4
+    (λ c. search needs)
+    (λ c κs. search needs)
+    (λ c. found-fits _ (c .before .before .before .before .before .before .before .before .before .before .before .pre .0) (c .first-other3 .ensures))
+    returns-5)

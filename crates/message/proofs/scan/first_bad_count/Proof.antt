@@ -1,0 +1,42 @@
+-- `message::scan::first_bad_count`: the count is in range at every packet that is passed. Assumes nothing.
+use mathlib.Core.Path.{_≡_, refl, ap, sym, _∙_, subst}
+use mathlib.Core.Bool.{Bool, not, true, false, _||_}
+use Prim.Native.Nat.{ℕ, _*_, _+_, _-_, _≤_, _<_}
+use native.Mathlib.Omega.{arith}
+use borrow.Author.Tests.{lt-ltb, le-ltb}
+use lib.Dec.{ltb}
+use Rattle.ump.specs.Check.{badCount}
+use Rattle.ump.proofs.First.{Passed, passed-zero, passed-one, passed-end, passed-here}
+use Rattle.message.specs.Scan.{countOut}
+use Rattle.message.proofs.Laws.{Here, here, count-low, count-high, count-in}
+use Rattle.message.proofs.scan.first_bad_count.Statement.{statement}
+use Rattle.message.proofs.scan.first_bad_count.Tie as tie
+
+abbrev Inv-loop : tie.InvT-loop
+Inv-loop words stride packets least most packet₀ packet = Passed (countOut stride words least most) packets packet
+
+abbrev μ-loop : tie.MeasureT-loop
+μ-loop words stride packets least most packet₀ packet = packets - packet
+
+below : (c : tie.Else1 Inv-loop μ-loop) → c .before .loop .packet < c .before .before .args .packets
+below c = omega (arith, c .before .loop .inv .within)
+
+at : (c : tie.Else1 Inv-loop μ-loop) → Here (c .before .before .args .stride) (c .before .loop .packet) (c .before .before .args .words .now)
+at c = here (c .before .loop .packet) (c .before .before .pre) (below c)
+
+pub first-bad-count-spec : {M : Type 1} → statement M
+first-bad-count-spec =
+    tie.close
+    (tie.spec
+    Inv-loop
+    μ-loop
+    (λ c. passed-zero)
+    (λ c. at c .fits)
+    (λ c. at c .bytes-fit)
+    (λ c. at (c .before) .index)
+    (λ c. omega (arith, below (c .before .before .before)))
+    (λ c. omega (arith, below (c .before .before .before)))
+    (λ c. passed-one (c .before .before .before .before .loop .inv) (below (c .before .before .before)) (count-in _ _ _ (c .before .if2 .left) (c .if3 .left)))
+    (λ c. sym (c .if1 .taken) ∙ passed-end (c .before .loop .inv) (omega arith))
+    (λ c. passed-here (c .before .before .before .loop .inv) (below (c .before .before)) (count-low _ _ _ (c .if2 .taken)))
+    (λ c. passed-here (c .before .before .before .before .loop .inv) (below (c .before .before .before)) (count-high _ _ _ (c .before .if2 .left) (c .if3 .taken))))

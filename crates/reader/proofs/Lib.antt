@@ -1,0 +1,4 @@
+mod Parts
+pub mod Laws
+pub mod Unique
+pub mod ShutOut

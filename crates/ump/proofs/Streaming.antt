@@ -1,0 +1,116 @@
+-- The byte stream: the cases of the call; and what it accepts becomes a valid SysEx7 message that carries the data. Assumes nothing.
+use mathlib.Core.Path.{_≡_, refl}
+use mathlib.Core.Bool.{Bool, true, false}
+use mathlib.Core.List.{List, [], _++_}
+use Prim.Native.Nat.{ℕ, suc, _≤_, _<_}
+use native.Mathlib.Omega.{arith}
+use lib.Dec.{ltb}
+use lib.ListN.{length, getD, take, drop}
+use lib.Seq.{take-at, drop-at}
+use borrow.Author.Tests.{ltb-false, lt-ltb, le-ltb}
+use Rattle.refusal.specs.Answer.{gives, refused, _▷_, guard, writes}
+use Rattle.refusal.proofs.Laws.{never-refused}
+use Rattle.ump.specs.Word.{Below}
+use Rattle.ump.specs.Packet.{sysex7}
+use Rattle.ump.specs.Packing.{pack, wordsFor}
+use Rattle.ump.specs.Check.{first, payloadOf, checked}
+use Rattle.ump.specs.Stream.{badFrame, between, badByte, toSysex7}
+use Rattle.ump.proofs.Words.{below-at}
+use Rattle.ump.proofs.First.{first-before}
+use Rattle.ump.proofs.Packing.{length-pack}
+use Rattle.ump.proofs.Message.{payloadOf-pack, checked-pack}
+
+-- the first byte of 80 hex or more, and the words that the data needs
+abbrev pub firstBad : List ℕ → ℕ
+firstBad bytes = first (badByte (between bytes)) (length (between bytes))
+
+abbrev pub needed : List ℕ → ℕ
+needed bytes = wordsFor sysex7 (length (between bytes))
+
+-- ---- the cases, each after those before it did not hold
+
+module _ (bytes : List ℕ) (group : ℕ) (words : List ℕ) where
+  pub stream-long : 16384 < length words → toSysex7 bytes group words ≡ (refused 1 0, words)
+  unfolding toSysex7
+  stream-long h = rw (lt-ltb _ _ h)
+
+  module _ (few : length words ≤ 16384) where
+    pub stream-field : 15 < group → toSysex7 bytes group words ≡ (refused 16 0, words)
+    unfolding toSysex7
+    stream-field h = rw (le-ltb _ _ few, lt-ltb _ _ h)
+
+    module _ (small : group ≤ 15) where
+      pub stream-frame : badFrame bytes ≡ true → toSysex7 bytes group words ≡ (refused 17 0, words)
+      unfolding toSysex7
+      stream-frame h = rw (le-ltb _ _ few, le-ltb _ _ small, h)
+
+      module _ (framed : badFrame bytes ≡ false) where
+        pub stream-byte : firstBad bytes < length (between bytes) → toSysex7 bytes group words ≡ (refused 18 (suc (firstBad bytes)), words)
+        unfolding toSysex7
+        stream-byte h = rw (le-ltb _ _ few, le-ltb _ _ small, framed, lt-ltb _ _ h)
+
+        module _ (septets : length (between bytes) ≤ firstBad bytes) where
+          pub stream-room : length words < needed bytes → toSysex7 bytes group words ≡ (refused 14 0, words)
+          unfolding toSysex7
+          stream-room h = rw (le-ltb _ _ few, le-ltb _ _ small, framed, le-ltb _ _ septets, lt-ltb _ _ h)
+
+          pub stream-done : needed bytes ≤ length words
+              → toSysex7 bytes group words ≡ (gives (needed bytes), pack sysex7 group [] (between bytes) ++ drop (needed bytes) words)
+          unfolding toSysex7
+          stream-done h = rw (le-ltb _ _ few, le-ltb _ _ small, framed, le-ltb _ _ septets, le-ltb _ _ h)
+
+-- ---- what an accepted stream tells
+
+pub record Accepted (bytes : List ℕ) (group : ℕ) (words : List ℕ) (n : ℕ) : Type 0 where
+  pub few : length words ≤ 16384
+  pub small : group ≤ 15
+  pub framed : badFrame bytes ≡ false
+  pub septets : length (between bytes) ≤ firstBad bytes
+  pub room : needed bytes ≤ length words
+  pub written : n ≡ needed bytes
+
+pub stream-tells : (bytes : List ℕ) (group : ℕ) (words : List ℕ) (n : ℕ) → toSysex7 bytes group words .0 ≡ gives n → Accepted bytes group words n
+unfolding toSysex7
+stream-tells bytes group words n e = go _ _ _ _ _ _ refl refl refl refl refl e
+  where
+    go : (after : List ℕ) (a b c d f : Bool) → ltb 16384 (length words) ≡ a → ltb 15 group ≡ b → badFrame bytes ≡ c → ltb (firstBad bytes) (length (between bytes)) ≡ d → ltb (length words) (needed bytes) ≡ f
+        → writes (guard a 1 0 ▷ guard b 16 0 ▷ guard c 17 0 ▷ guard d 18 (suc (firstBad bytes)) ▷ guard f 14 0) words (needed bytes) after .0 ≡ gives n
+        → Accepted bytes group words n
+    go after true b c d f ea eb ec ed ef x = never-refused x
+    go after false true c d f ea eb ec ed ef x = never-refused x
+    go after false false true d f ea eb ec ed ef x = never-refused x
+    go after false false false true f ea eb ec ed ef x = never-refused x
+    go after false false false false true ea eb ec ed ef x = never-refused x
+    go after false false false false false ea eb ec ed ef x =
+        record { few = ltb-false _ _ ea; small = ltb-false _ _ eb; framed = ec; septets = ltb-false _ _ ed; room = ltb-false _ _ ef; written = cc }
+
+-- ---- a valid message that carries the data
+
+-- the words lent, after a call that writes n of them: the fewest-packet form of the data, then what stood there; those n are a valid
+-- message that carries the data, whatever stands behind them
+pub record Streamed (bytes : List ℕ) (group : ℕ) (words : List ℕ) (n : ℕ) (after : List ℕ) : Type 0 where
+  pub fewest : take n after ≡ pack sysex7 group [] (between bytes)
+  pub stays : drop n after ≡ drop n words
+  pub checks : (rest : List ℕ) → length (take n after ++ rest) ≤ 16384
+      → checked sysex7 (take n after ++ rest) n ≡ gives (record { group = group; id = []; size = length (between bytes); words = n })
+  pub carries : (rest : List ℕ) → payloadOf sysex7 (take n after ++ rest) n ≡ between bytes
+
+pub stream-valid : (bytes : List ℕ) (group : ℕ) (words : List ℕ) (n : ℕ) → toSysex7 bytes group words .0 ≡ gives n
+    → Streamed bytes group words n (toSysex7 bytes group words .1)
+stream-valid bytes group words n e =
+    let a = stream-tells bytes group words n e in
+    let inner : List ℕ = between bytes in
+    let m : List ℕ = pack sysex7 group [] inner in
+    let l : length m ≡ needed bytes = length-pack sysex7 group [] inner refl in
+    let t : take (needed bytes) (m ++ drop (needed bytes) words) ≡ m = take-at m (drop (needed bytes) words) (needed bytes) l in
+    let g : group < 16 = omega (arith, a .small) in
+    let b : Below 128 inner =
+    below-at 128 inner (λ i h. omega (arith, ltb-false 0x7F (getD inner i 0) (first-before (badByte inner) (length inner) i (omega (arith, a .septets)))))
+    in
+    rw (stream-done bytes group words (a .few) (a .small) (a .framed) (a .septets) (a .room), a .written)
+    (record {
+      fewest = t;
+      stays = drop-at m (drop (needed bytes) words) (needed bytes) l;
+      checks = λ rest h. rw t (checked-pack sysex7 group [] inner g refl tt b rest (rw t at h));
+      carries = λ rest. rw t (payloadOf-pack sysex7 group [] inner g refl tt b rest);
+    })

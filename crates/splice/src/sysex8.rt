@@ -75,7 +75,7 @@ pub fn repack(words: &mut [u32], length: usize) -> Repacked
                     place: 0,
                 });
             }
-            Repacked::Words(super::packing::pack(words, length, message.size))
+            Repacked::Words(super::splicing::repack(words, length, message.size))
         }
     }
 }

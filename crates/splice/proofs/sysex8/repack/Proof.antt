@@ -37,7 +37,7 @@ returns-4 c =
     let f = k .before .before in
     let e = f .before in
     let n = e .before in
-    ap₂ (λ a l. (gives a, l)) (k .pack .ensures .0) (k .pack .ensures .1)
+    ap₂ (λ a l. (gives a, l)) (k .repack .ensures .0) (k .repack .ensures .1)
     ∙ repack-done _ _ _ (passed (n .before .before)) (rw (n .words-needed .ensures) at (e .if1 .left)) (rw (n .words-needed .ensures) at (f .if2 .left))
 
 pub repack-spec : {M : Type 1} → statement M

@@ -1,7 +1,7 @@
 -- Shift and mask as the code computes them, over the place and the width of a part of a word; and an answer is fixed by what it means.
 -- Assumes nothing.
 use mathlib.Core.Path.{_≡_, refl, sym, ap, ap₂, _∙_, subst}
-use mathlib.Core.Bool.{Bool, true, false, not}
+use mathlib.Core.Bool.{true, false, not}
 use Prim.Native.Nat.{ℕ, zero, suc, _+_, _-_, _*_, _/_, _%_, _^_, _≤_, _<_}
 use native.Mathlib.Nat.{mod-lt, mod-eq-of-lt, add-mul, add-zero, one-mul, suc-mul, mul-le-mul-right}
 use native.Mathlib.Omega.{arith}

@@ -6,3 +6,6 @@ pub mod Passes
 pub mod Once
 pub mod Unique
 pub mod ShutOut
+pub mod Worker
+pub mod Demand
+pub mod Finishing

@@ -1,14 +1,14 @@
 -- The first four tests of the check: the refusal, or how many packets there are. Assumes nothing.
-use mathlib.Core.Path.{_≡_, refl, sym, ap, _∙_, subst}
+use mathlib.Core.Path.{_≡_, refl, sym, ap, subst}
 use mathlib.Core.Bool.{Bool, true, false, not}
 use mathlib.Core.List.{List}
-use Prim.Native.Nat.{ℕ, _+_, _*_, _/_, _%_, _≤_, _<_}
+use Prim.Native.Nat.{ℕ, _*_, _/_, _%_, _≤_, _<_}
 use native.Mathlib.Nat.{div-add-mod, le-div-iff-mul-le}
 use native.Mathlib.Omega.{arith}
 use lib.Dec.{eqb, ltb}
 use lib.ListN.{length}
-use borrow.Author.Tests.{le-ltb, ltb-false, eq-eqb, eqb-true, not-false}
-use Rattle.refusal.specs.Answer.{Answer, gives, refused, pass, _▷_, guard}
+use borrow.Author.Tests.{le-ltb, ltb-false, eq-eqb, eqb-true}
+use Rattle.refusal.specs.Answer.{gives, refused, pass, _▷_, guard}
 use Rattle.refusal.proofs.Laws.{never-both, never-refused}
 use Rattle.ump.specs.Packet.{Shape, payload}
 use Rattle.ump.specs.Check.{check, checkPackets, payloadOf}

@@ -1,14 +1,14 @@
 -- What the check answers, from what its scan found. Assumes nothing.
 use mathlib.Core.Path.{_≡_, refl, sym, ap, ap₂, _∙_}
 use mathlib.Core.List.{List}
-use Prim.Native.Nat.{ℕ, _*_, _/_, _≤_, _<_}
+use Prim.Native.Nat.{ℕ, _*_, _/_, _<_}
 use native.Mathlib.Nat.{mul-pos, mul-div-right}
 use native.Mathlib.Omega.{arith}
 use lib.ListN.{length, getD}
-use Rattle.refusal.specs.Answer.{Answer, gives, refused, pass, _▷_}
+use Rattle.refusal.specs.Answer.{gives, refused, pass}
 use Rattle.refusal.proofs.Laws.{given-passes, refused-by}
 use Rattle.ump.specs.Word.{nibble}
-use Rattle.ump.specs.Packet.{Shape, sysex8, sysex7, countAt, groupAt, idAt, payload}
+use Rattle.ump.specs.Packet.{Shape, sysex8, sysex7, countAt, groupAt, idAt}
 use Rattle.ump.specs.Check.{check, checked, payloadOf, Summary, Valid}
 use Rattle.ump.proofs.Sizes.{words-pos}
 use Rattle.ump.proofs.Checks.{passes-valid}
@@ -76,6 +76,3 @@ module _ {stride type least most modulus : ℕ} (s : Shape) (h : Shaped s stride
       let k = v .counts p (rw packets-are at l) in
       let c : nibble (getD ws (stride * p) 0) 3 ≡ countAt s ws p = rw (h .words-are) in
       (rw (c, ← (h .least-is)) (k .0), rw (c, ← (h .most-is)) (k .1))
-
-  pub taken-payload : payloadOf s ws len ≡ payload s ws (len / stride)
-  taken-payload = ap (λ (w : ℕ). payload s ws (len / w)) (h .words-are)

@@ -1,24 +1,24 @@
 -- Packets that are all in order, by the numbers of their first words. Assumes nothing.
 use mathlib.Core.Path.{_≡_, refl, sym, ap, ap₂, _∙_, subst}
-use mathlib.Core.Bool.{Bool, true, false, not, _||_}
-use mathlib.Core.List.{List, _++_}
-use Prim.Native.Nat.{ℕ, zero, suc, _+_, _-_, _*_, _/_, _%_, _^_, _≤_, _<_}
+use mathlib.Core.Bool.{false, not}
+use mathlib.Core.List.{List}
+use Prim.Native.Nat.{ℕ, _+_, _-_, _*_, _/_, _%_, _^_, _≤_, _<_}
 use native.Mathlib.Numerals.{add-one}
 use native.Mathlib.Omega.{arith}
 use lib.Dec.{eqb, ltb}
 use lib.ListN.{length, getD, length-append}
-use borrow.Author.Tests.{eq-eqb, eqb-true, not-false, le-ltb, ltb-false}
-use Rattle.refusal.specs.Answer.{Answer, pass, _▷_}
+use borrow.Author.Tests.{eq-eqb, eqb-true, not-false, ltb-false}
+use Rattle.refusal.specs.Answer.{pass}
 use Rattle.ump.specs.Word.{nibble}
 use Rattle.ump.specs.Packet.{Shape, countAt, sizeAt, payloadAt, joined, payload}
 use Rattle.ump.specs.Packing.{statusFor}
-use Rattle.ump.specs.Check.{first, badType, badStatus, badCount, badGroup, badId, statusNumber, sweep, checkPackets}
+use Rattle.ump.specs.Check.{badType, badStatus, badCount, badGroup, badId, statusNumber, checkPackets}
 use Rattle.ump.proofs.Sizes.{size-of-count}
 use Rattle.ump.proofs.First.{Side, under, over, side}
 use Rattle.ump.proofs.Bytes.{length-payloadAt}
 use Rattle.ump.proofs.Checks.{sweep-pass, pass-sweep, pass-both, both-pass, or-left, or-right}
-use Rattle.message.specs.Scan.{otherAt, outOfStep, countOut, Inside, Shaped}
-use Rattle.message.proofs.Laws.{Here, here, count-in}
+use Rattle.message.specs.Scan.{countOut, Shaped}
+use Rattle.message.proofs.Laws.{count-in}
 use Rattle.message.proofs.Stages.{type-at, status-at, count-at, group-at, id-at}
 
 -- the first word x of packet p of n is in order, where head is that of packet 0

@@ -1,5 +1,5 @@
 -- What the loops over packets share. Assumes nothing.
-use mathlib.Core.Path.{_≡_, refl, sym, ap, _∙_}
+use mathlib.Core.Path.{_≡_, refl, ap}
 use Prim.Native.Nat.{ℕ, zero, suc, _+_, _*_, _≤_, _<_}
 use native.Mathlib.Nat.{mul-suc, mul-le-mul-left, le-mul-of-pos-right, mul-comm}
 use native.Mathlib.Omega.{arith}

@@ -3,8 +3,6 @@ use mathlib.Core.Path.{_≡_, refl, ap}
 use Prim.Native.Nat.{ℕ}
 use lib.ListN.{getD}
 use Rattle.refusal.specs.Answer.{Answer, gives, refused}
-use Rattle.refusal.specs.Number.{nameOf}
-use Rattle.refusal.specs.declared.Fault.{Fault}
 use Rattle.refusal.proofs.Laws.{fault-back, faultBack}
 use Rattle.refusal.proofs.Tight.{once}
 use Rattle.ump.specs.Check.{Summary}

@@ -1,10 +1,9 @@
 -- Where a payload byte of a SysEx8 message that was taken stands. Assumes nothing.
-use mathlib.Core.Path.{_≡_, refl, sym, ap, ap₂, _∙_, subst}
+use mathlib.Core.Path.{_≡_}
 use mathlib.Core.List.{List}
 use Prim.Native.Nat.{ℕ, _+_, _*_, _/_, _≤_, _<_}
 use native.Mathlib.Omega.{arith}
 use lib.ListN.{length, getD}
-use Rattle.ump.specs.Word.{nibble}
 use Rattle.ump.specs.Packet.{sysex8, countAt, sizeAt, byteAt, payload}
 use Rattle.ump.specs.Check.{payloadOf, Valid}
 use Rattle.ump.specs.Setters.{packetOf, byteIn}

@@ -1,7 +1,6 @@
 -- Payload sizes by the numbers of a shape, and the search for a byte. Assumes nothing.
-use mathlib.Core.Path.{_≡_, refl, sym, ap, ap₂, _∙_, subst}
-use mathlib.Core.Bool.{Bool, true, false}
-use mathlib.Core.List.{List, _++_}
+use mathlib.Core.Path.{_≡_, refl, ap, ap₂, _∙_, subst}
+use mathlib.Core.List.{List}
 use Prim.Native.Nat.{ℕ, zero, suc, _+_, _-_, _*_, _≤_, _<_}
 use native.Mathlib.Numerals.{add-one}
 use native.Mathlib.Omega.{arith}
@@ -10,14 +9,13 @@ use lib.ListN.{length, getD, length-append}
 use borrow.Author.Tests.{lt-ltb, le-ltb}
 use Rattle.ump.specs.Word.{nibble}
 use Rattle.ump.specs.Packet.{Shape, countAt, sizeAt, payloadAt, joined, payload}
-use Rattle.ump.specs.Check.{first}
 use Rattle.ump.specs.Edits.{total}
 use Rattle.ump.specs.Setters.{packetOf, byteIn}
 use Rattle.ump.proofs.First.{Passed, passed-zero, passed-one, passed-here, first-cong, first-le, Side, under, over, side}
 use Rattle.ump.proofs.Sizes.{size-of-count}
 use Rattle.ump.proofs.Bytes.{length-payloadAt}
 use Rattle.message.specs.Scan.{Inside, Counted, sizeTo, Found, Shaped}
-use Rattle.message.proofs.Laws.{Here, here}
+use Rattle.message.proofs.Laws.{here}
 
 -- ---- the search for payload byte i
 

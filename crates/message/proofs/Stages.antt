@@ -1,18 +1,16 @@
 -- The stages of the check, by the numbers of a shape: what the loops find is what the definition asks for. Assumes nothing.
-use mathlib.Core.Path.{_≡_, refl, sym, ap, ap₂, _∙_}
-use mathlib.Core.Bool.{Bool, true, false, not, _&&_, _||_, and-true}
+use mathlib.Core.Path.{_≡_, refl, sym, ap, _∙_}
+use mathlib.Core.Bool.{Bool, true, false, not, and-true}
 use mathlib.Core.List.{List, [], _∷_}
-use Prim.Native.Nat.{ℕ, zero, suc, _+_, _*_, _/_, _%_, _^_, _≤_, _<_}
+use Prim.Native.Nat.{ℕ, _*_, _/_, _%_, _^_, _≤_, _<_}
 use native.Mathlib.Nat.{mul-zero, mod-one}
-use native.Mathlib.Omega.{arith}
 use lib.Dec.{eqb, ltb}
-use lib.ListN.{length, getD, take}
-use borrow.Author.Tests.{lt-ltb, le-ltb, eq-eqb}
-use Rattle.refusal.specs.Answer.{Answer, refused, pass, _▷_, guard}
-use Rattle.ump.specs.Word.{nibble, octet}
+use lib.ListN.{getD, take}
+use borrow.Author.Tests.{lt-ltb, le-ltb}
+use Rattle.refusal.specs.Answer.{refused, pass, _▷_, guard}
+use Rattle.ump.specs.Word.{octet}
 use Rattle.ump.specs.Packet.{Shape, firstWord}
-use Rattle.ump.specs.Packing.{statusFor}
-use Rattle.ump.specs.Check.{first, badType, badStatus, badCount, badGroup, badId, same, statusNumber, sweep, checkPackets}
+use Rattle.ump.specs.Check.{first, badType, badStatus, badCount, badGroup, badId, same, statusNumber, checkPackets}
 use Rattle.ump.proofs.First.{first-cong}
 use Rattle.message.specs.Scan.{otherAt, outOfStep, countOut, IdModulus, no-id, one-id, Shaped}
 

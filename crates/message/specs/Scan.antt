@@ -17,7 +17,7 @@ use Rattle.ump.specs.Edits.{total}
 use Rattle.ump.specs.Single.{withGroup}
 use Rattle.ump.specs.Setters.{withId}
 use Rattle.message.specs.declared.scan.Bounds as bounds
-use Rattle.message.specs.declared.scan.Total as total
+use Rattle.message.specs.declared.scan.Total as totals
 use Rattle.message.specs.declared.scan.Scan as scan
 
 -- some packets stand inside the words, which are no more than a message may have
@@ -73,9 +73,9 @@ pub record Shaped (shape : Shape) (stride type least most modulus : ℕ) : Type 
   pub ids-are : IdModulus (shape .ids) modulus
 
 -- what a total says of n packets: they pass, and this is the size of their payload; or they do not pass
-abbrev pub InOrder : Shape → List ℕ → ℕ → total.Total → Type 0
-InOrder shape words n (total.the-variants.Size size) = (checkPackets shape words n ≡ pass) × (size ≡ length (payload shape words n))
-InOrder shape words n total.the-variants.Fault = checkPackets shape words n ≡ pass → ⊥
+abbrev pub InOrder : Shape → List ℕ → ℕ → totals.Total → Type 0
+InOrder shape words n (totals.the-variants.Size size) = (checkPackets shape words n ≡ pass) × (size ≡ length (payload shape words n))
+InOrder shape words n totals.the-variants.Fault = checkPackets shape words n ≡ pass → ⊥
 
 -- ---- payload sizes by the numbers of a shape
 

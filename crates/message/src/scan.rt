@@ -1,7 +1,7 @@
 // The check of a message of any shape, as loops over the first words of its packets. A promise here holds of every shape whose
 // numbers are the ones given: words in a packet, message type, least and most count, octets of stream id.
 ghost use mathlib.Core.Path.{_≡_};
-ghost use Prim.Native.Nat.{ℕ, _+_, _*_, _^_, _≤_, _<_};
+ghost use Prim.Native.Nat.{_+_, _*_, _<_};
 ghost use lib.ListN.{length};
 ghost use Rattle.ump.specs.Packet.{Shape};
 ghost use Rattle.ump.specs.Packing.{statusFor};

@@ -1,17 +1,17 @@
 -- The cases of the definitions that reading a packet cites, over plain values. Assumes nothing.
-use mathlib.Core.Path.{_≡_, refl, sym, ap, _∙_}
-use mathlib.Core.Bool.{Bool, true, false, cond, not, _&&_, and-true}
+use mathlib.Core.Path.{_≡_, refl, sym}
+use mathlib.Core.Bool.{Bool, true, false, not, _&&_, and-true}
 use mathlib.Core.List.{List, [], _∷_}
 use Prim.Native.Nat.{ℕ, _+_, _-_, _*_, _/_, _%_, _^_, _≤_, _<_}
 use native.Mathlib.Omega.{arith}
-use lib.Dec.{eqb, ltb, leb}
+use lib.Dec.{eqb, ltb}
 use lib.ListN.{length, getD}
 use mir.Syntax.{w32}
 use mir.Val.{Fits}
-use borrow.Author.Tests.{eq-eqb, ne-eqb, lt-ltb, le-ltb, le-leb, ltb-false, leb-true, eqb-true, eqb-false}
+use borrow.Author.Tests.{eq-eqb, ne-eqb, lt-ltb, le-ltb, le-leb, ltb-false, eqb-true, eqb-false}
 use Rattle.refusal.specs.Answer.{Answer, gives, refused, _▷_, guard}
 use Rattle.refusal.proofs.Laws.{never-refused}
-use Rattle.ump.specs.Word.{octet, word, octets}
+use Rattle.ump.specs.Word.{octet, octets}
 use Rattle.ump.specs.Packet.{Shape, sysex8, sysex7, header, typeAt, groupAt, statusAt, countAt, idAt, sizeOf, sizeAt}
 use Rattle.ump.specs.Check.{badType, badCount}
 use Rattle.ump.specs.Single.{Kind, Packet, zeros, blank, unexpected, readPacket8, readPacket7, packetByte, setPacketGroup}
@@ -84,26 +84,26 @@ blank-words (a ∷ b ∷ c ∷ d ∷ ws) h f =
 -- ---- the readers
 
 -- a decision with the fields of the packet's first word
-abbrev pub packetOf : Shape → List ℕ → Answer (Kind × ℕ) → Answer Packet
-packetOf shape words (gives decision) =
+abbrev pub packetFrom : Shape → List ℕ → Answer (Kind × ℕ) → Answer Packet
+packetFrom shape words (gives decision) =
     gives (record { kind = decision .0; group = groupAt shape words 0; id = idAt shape words 0; size = decision .1 })
-packetOf shape words (refused number place) = refused number place
+packetFrom shape words (refused number place) = refused number place
 
 -- what both readers do: Short, Type, and then the decision
 unfoldable pub framed : Shape → List ℕ → Answer (Kind × ℕ) → Answer Packet
 framed shape words decision =
-    guard (ltb (length words) (shape .words)) 3 0 ▷ guard (badType shape words 0) 5 0 ▷ packetOf shape words decision
+    guard (ltb (length words) (shape .words)) 3 0 ▷ guard (badType shape words 0) 5 0 ▷ packetFrom shape words decision
 
 -- two checks before the decision are two checks before the packet
 packet-checks : (shape : Shape) (words : List ℕ) (a b : Bool) (n m : ℕ) (decision : Kind × ℕ)
-    → packetOf shape words (guard a n 0 ▷ guard b m 0 ▷ gives decision) ≡ guard a n 0 ▷ guard b m 0 ▷ packetOf shape words (gives decision)
+    → packetFrom shape words (guard a n 0 ▷ guard b m 0 ▷ gives decision) ≡ guard a n 0 ▷ guard b m 0 ▷ packetFrom shape words (gives decision)
 packet-checks shape words true b n m decision = refl
 packet-checks shape words false true n m decision = refl
 packet-checks shape words false false n m decision = refl
 
 -- a packet that four checks let through has its words, and its size has room
 has : (shape : Shape) (words : List ℕ) (a b c d : Bool) (k l m n : ℕ) (kind : Kind) {packet : Packet} → ltb (length words) (shape .words) ≡ a
-    → guard a k 0 ▷ guard b l 0 ▷ guard c m 0 ▷ guard d n 0 ▷ packetOf shape words (gives (kind, sizeAt shape words 0)) ≡ gives packet
+    → guard a k 0 ▷ guard b l 0 ▷ guard c m 0 ▷ guard d n 0 ▷ packetFrom shape words (gives (kind, sizeAt shape words 0)) ≡ gives packet
     → (shape .words ≤ length words) × (packet .size ≤ shape .room)
 has shape words true b c d k l m n kind h e = never-refused e
 has shape words false true c d k l m n kind h e = never-refused e
@@ -165,7 +165,7 @@ module _ (reader : Reader) (words : List ℕ) where
   foreign h k = rw (le-ltb _ _ h, ne-eqb _ _ k) at (reader .reads words)
 
   pub ours : {decided : Answer (Kind × ℕ)} → decided ≡ reader .decision words → reader .shape .words ≤ length words → typeAt (reader .shape) words 0 ≡ reader .shape .type
-      → packetOf (reader .shape) words decided ≡ reader .read words
+      → packetFrom (reader .shape) words decided ≡ reader .read words
   unfolding framed badType
   ours e h k = rw e (rw (le-ltb _ _ h, eq-eqb _ _ k) at (reader .reads words))
 

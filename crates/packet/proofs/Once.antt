@@ -1,5 +1,5 @@
 -- An answer is fixed by what it means: each meaning has a way back. Assumes nothing.
-use mathlib.Core.Path.{_≡_, refl, ap}
+use mathlib.Core.Path.{_≡_, refl}
 use mathlib.Core.Bool.{true, false}
 use lib.ListN.{getD}
 use Rattle.refusal.specs.Answer.{Answer, gives, refused}

@@ -1,5 +1,5 @@
 -- Any two outcomes that a promise allows are equal: the answer, and all lent words after a call that writes. Assumes nothing.
-use mathlib.Core.Path.{_≡_, sym, _∙_}
+use mathlib.Core.Path.{sym, _∙_}
 use Rattle.refusal.specs.Meaning.{storedMeaning}
 use Rattle.refusal.proofs.Laws.{stored-once, byte-once}
 use Rattle.refusal.proofs.Tight.{FixesResult, FixesOutcome, both-fixed}

@@ -1,13 +1,11 @@
 -- No two refusals share a number, and an answer is fixed by what it means. Assumes nothing.
-use mathlib.Core.Path.{_≡_, refl, sym, ap, ap₂, _∙_}
-use mathlib.Core.Bool.{Bool, true, false}
-use mathlib.Core.List.{List}
+use mathlib.Core.Path.{_≡_, refl, sym, ap, _∙_}
 use Prim.Native.Nat.{ℕ}
 use native.Mathlib.Omega.{arith}
 use Rattle.refusal.proofs.Tight.{once}
-use Rattle.refusal.specs.Answer.{Answer, gives, refused, Verdict, pass, _▷_, guard, verdict, writes}
+use Rattle.refusal.specs.Answer.{Answer, gives, refused, Verdict, pass, _▷_}
 use Rattle.refusal.specs.Number.{numberOf, nameOf}
-use Rattle.refusal.specs.Meaning.{faultOf, storedMeaning, byteMeaning}
+use Rattle.refusal.specs.Meaning.{storedMeaning, byteMeaning}
 use Rattle.refusal.specs.declared.Refusal.{Refusal}
 use Rattle.refusal.specs.declared.Refusal.the-variants.{Long, Length, Short, Ragged, «Type», Complete, Begin, Continue, End, Count, Group, Stream, Range, Room, Status, Field, Frame, Byte, Spread, Overlap}
 use Rattle.refusal.specs.declared.Fault.{Fault}

@@ -7,7 +7,7 @@ use native.Mathlib.Omega.{arith}
 use lib.ListN.{getD}
 use Rattle.ump.specs.Word.{word, octet}
 use Rattle.ump.proofs.Words.{word-octets, octet-fits}
-use Rattle.splice.specs.Places.{place, byteAt, cut}
+use Rattle.splice.specs.Places.{place, packedByte, cut}
 use Rattle.splice.proofs.Standing.{quarters}
 
 -- ---- parts of words, by their octets
@@ -51,12 +51,12 @@ place-over i d l h =
     omega arith
 
 -- the byte at a known octet of a known word
-pub byte-is : (ws : List ℕ) (i k j : ℕ) → j < 4 → place i ≡ 4 * k + j → byteAt ws i ≡ octet (getD ws k 0) j
-unfolding byteAt
+pub byte-is : (ws : List ℕ) (i k j : ℕ) → j < 4 → place i ≡ 4 * k + j → packedByte ws i ≡ octet (getD ws k 0) j
+unfolding packedByte
 byte-is ws i k j h e = rw (quarters (place i) k j h e .0, quarters (place i) k j h e .1)
 
 abbrev fourFrom : List ℕ → ℕ → ℕ
-fourFrom ws i = word (byteAt ws i) (byteAt ws (i + 1)) (byteAt ws (i + 2)) (byteAt ws (i + 3))
+fourFrom ws i = word (packedByte ws i) (packedByte ws (i + 1)) (packedByte ws (i + 2)) (packedByte ws (i + 3))
 
 -- the octets that are none of the first word's
 data Octet (j : ℕ) : Type 0 where

@@ -11,7 +11,7 @@ use Rattle.ump.specs.Packet.{sysex8, groupAt}
 use Rattle.ump.specs.Packing.{statusFor, packetsFor}
 use Rattle.ump.proofs.Sizes.{status-inner}
 use Rattle.ump.proofs.First.{Side, under, over, side}
-use Rattle.splice.specs.Header.{headOf}
+use Rattle.splice.specs.Header.{firstWordOf}
 use Rattle.splice.specs.Places.{place}
 use Rattle.splice.specs.Splices.{Ready, newByte, newWord, headed, target}
 use Rattle.splice.specs.declared.splicing.Plan.{Plan}
@@ -45,7 +45,7 @@ module _ (w r : List ℕ) (plan : Plan) (ready : Ready w r plan) (small : (k : �
       ∙ target-word w r plan ready w k (omega (arith, low-reach w r plan ready)) (λ j q. refl)
 
   -- a first word there, made anew with its byte
-  first-made : (k x : ℕ) → k < low plan → k % 4 ≡ 0 → x % 256 ≡ getD w k 0 % 256 → headOf (plan .base) (plan .total) (k / 4) + x % 256 ≡ getD T k 0
+  first-made : (k x : ℕ) → k < low plan → k % 4 ≡ 0 → x % 256 ≡ getD w k 0 % 256 → firstWordOf (plan .base) (plan .total) (k / 4) + x % 256 ≡ getD T k 0
   unfolding newWord
   first-made k x h z e =
       let i = 13 * (k / 4) in
@@ -103,7 +103,7 @@ module _ (w r : List ℕ) (plan : Plan) (ready : Ready w r plan) (small : (k : �
     reach = (omega (arith, low-reach w r plan ready, ready .sizes .fits), length-seam (low plan) w T (sym (length-target w r plan ready)) ∙ length-target w r plan ready)
 
     abbrev once : List ℕ
-    once = set old 0 (headOf (plan .base) (plan .total) 0 + getD old 0 0 % 256)
+    once = set old 0 (firstWordOf (plan .base) (plan .total) 0 + getD old 0 0 % 256)
 
     kept-low : (k : ℕ) → k < low plan → getD old k 0 ≡ getD w k 0
     kept-low k l = seam-below (low plan) w T k (sym (length-target w r plan ready)) l
@@ -115,27 +115,27 @@ module _ (w r : List ℕ) (plan : Plan) (ready : Ready w r plan) (small : (k : �
 
     -- the byte of the last before the range's is still there
     byte-there : getD once last 0 % 256 ≡ getD w last 0 % 256
-    unfolding headOf
+    unfolding firstWordOf
     byte-there = go (test last 0)
       where
         go : Test last 0 → getD once last 0 % 256 ≡ getD w last 0 % 256
         go (is z _) =
-            rw (z, getD-set-same old 0 (headOf (plan .base) (plan .total) 0 + getD old 0 0 % 256) 0 (omega (arith, reach)), kept-low 0 (omega arith)) (omega (arith, ready .shared))
-        go (isnt z _) = ap (λ (x : ℕ). x % 256) (getD-set-other old 0 last (headOf (plan .base) (plan .total) 0 + getD old 0 0 % 256) 0 z ∙ kept-low last (omega arith))
+            rw (z, getD-set-same old 0 (firstWordOf (plan .base) (plan .total) 0 + getD old 0 0 % 256) 0 (omega (arith, reach)), kept-low 0 (omega arith)) (omega (arith, ready .shared))
+        go (isnt z _) = ap (λ (x : ℕ). x % 256) (getD-set-other old 0 last (firstWordOf (plan .base) (plan .total) 0 + getD old 0 0 % 256) 0 z ∙ kept-low last (omega arith))
 
-    heads-some : set once last (headOf (plan .base) (plan .total) (last / 4) + getD once last 0 % 256) ≡ T
+    heads-some : set once last (firstWordOf (plan .base) (plan .total) (last / 4) + getD once last 0 % 256) ≡ T
     heads-some =
         ext-getD 0 _ T (simp length-set (reach .1 ∙ sym (length-target w r plan ready))) (λ k l. go k (test k last) (test k 0))
       where
-        go : (k : ℕ) → Test k last → Test k 0 → getD (set once last (headOf (plan .base) (plan .total) (last / 4) + getD once last 0 % 256)) k 0 ≡ getD T k 0
+        go : (k : ℕ) → Test k last → Test k 0 → getD (set once last (firstWordOf (plan .base) (plan .total) (last / 4) + getD once last 0 % 256)) k 0 ≡ getD T k 0
         go k (is e _) _ =
             rw e
-            (getD-set-same once last (headOf (plan .base) (plan .total) (last / 4) + getD once last 0 % 256) 0 (simp length-set (omega (arith, reach)))
+            (getD-set-same once last (firstWordOf (plan .base) (plan .total) (last / 4) + getD once last 0 % 256) 0 (simp length-set (omega (arith, reach)))
             ∙ first-made last (getD once last 0) (omega arith) (omega arith) byte-there)
-        go k (isnt n _) (is e _) = getD-set-other once last k (headOf (plan .base) (plan .total) (last / 4) + getD once last 0 % 256) 0 n ∙ rw e first-there
+        go k (isnt n _) (is e _) = getD-set-other once last k (firstWordOf (plan .base) (plan .total) (last / 4) + getD once last 0 % 256) 0 n ∙ rw e first-there
         go k (isnt n _) (isnt m _) =
-            getD-set-other once last k (headOf (plan .base) (plan .total) (last / 4) + getD once last 0 % 256) 0 n
-            ∙ getD-set-other old 0 k (headOf (plan .base) (plan .total) 0 + getD old 0 0 % 256) 0 m
+            getD-set-other once last k (firstWordOf (plan .base) (plan .total) (last / 4) + getD once last 0 % 256) 0 n
+            ∙ getD-set-other old 0 k (firstWordOf (plan .base) (plan .total) 0 + getD old 0 0 % 256) 0 m
             ∙ same k m n
 
   pub heads-done : headed (behind w r plan) plan ≡ T

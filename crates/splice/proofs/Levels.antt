@@ -9,30 +9,30 @@ use Rattle.ump.specs.Check.{payloadOf}
 use Rattle.ump.proofs.First.{Side, under, over, side}
 use Rattle.ump.proofs.Message.{length-payload}
 use Rattle.ump.proofs.Payload.{payload-more, payload-at}
-use Rattle.splice.specs.Passed.{Passed, Full}
-use Rattle.splice.specs.Places.{place, byteAt}
+use Rattle.splice.specs.Accepted.{Accepted, Full}
+use Rattle.splice.specs.Places.{place, packedByte}
 use Rattle.splice.proofs.Standing.{quarters}
 use Rattle.splice.proofs.Messages.{inside, there, counts, size-is}
 
-module _ (w : List ℕ) (len n : ℕ) (ok : Passed w len n) (full : Full w len) where
+module _ (w : List ℕ) (len n : ℕ) (ok : Accepted w len n) (full : Full w len) where
   length-full : (s : ℕ) → s < len / 4 → length (payload sysex8 w s) ≡ 13 * s
   unfolding payload joined
   length-full zero h = refl
   length-full (suc s) h =
       omega (arith, payload-more sysex8 w s (there w len n ok s (omega arith)), full s (omega arith), length-full s (omega arith))
 
-  byte-place : (i s b : ℕ) → s < len / 4 → b < sizeAt sysex8 w s → b < 13 → i ≡ 13 * s + b → getD (payloadOf sysex8 w len) i 0 ≡ byteAt w i
-  unfolding byteAt
+  byte-place : (i s b : ℕ) → s < len / 4 → b < sizeAt sysex8 w s → b < 13 → i ≡ 13 * s + b → getD (payloadOf sysex8 w len) i 0 ≡ packedByte w i
+  unfolding packedByte
   byte-place i s b h l c e =
       let p : place i ≡ 4 * (4 * s + (b + 3) / 4) + (b + 3) % 4 = omega arith in
       let q = quarters (place i) (4 * s + (b + 3) / 4) ((b + 3) % 4) (omega arith) p in
       let z : i ≡ length (payload sysex8 w s) + b = omega (arith, length-full s h) in
       rw (q .0, q .1) (ap (λ (x : ℕ). getD (payloadOf sysex8 w len) x 0) z ∙ payload-at sysex8 w s (len / 4) b h (there w len n ok s h) l)
 
-  pub level : (i : ℕ) → i < length (payloadOf sysex8 w len) → getD (payloadOf sysex8 w len) i 0 ≡ byteAt w i
+  pub level : (i : ℕ) → i < length (payloadOf sysex8 w len) → getD (payloadOf sysex8 w len) i 0 ≡ packedByte w i
   level i h = go (side i (13 * (len / 4 - 1)))
     where
-      go : Side i (13 * (len / 4 - 1)) → getD (payloadOf sysex8 w len) i 0 ≡ byteAt w i
+      go : Side i (13 * (len / 4 - 1)) → getD (payloadOf sysex8 w len) i 0 ≡ packedByte w i
       go (under l _) =
           let f : sizeAt sysex8 w (i / 13) ≡ 13 = full (i / 13) (omega arith) in
           byte-place i (i / 13) (i % 13) (omega arith) (omega arith) (omega arith) (omega arith)
@@ -47,7 +47,7 @@ module _ (w : List ℕ) (len n : ℕ) (ok : Passed w len n) (full : Full w len) 
 
 -- ---- when all but the last packet are full
 
-module _ (w : List ℕ) (len n : ℕ) (ok : Passed w len n) where
+module _ (w : List ℕ) (len n : ℕ) (ok : Accepted w len n) where
   full-below : (m : ℕ) → m ≤ len / 4 → length (payload sysex8 w m) ≡ 13 * m → (p : ℕ) → p < m → sizeAt sysex8 w p ≡ 13
   full-below zero h e p l = absurd (omega arith)
   full-below (suc m) h e p l = go (side p m) (full-below m)

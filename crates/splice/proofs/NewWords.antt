@@ -12,7 +12,7 @@ use Rattle.ump.specs.Packet.{sysex8}
 use Rattle.ump.specs.Splice.{spliced}
 use Rattle.ump.proofs.First.{Side, under, over, side}
 use Rattle.ump.proofs.Positions.{wordAt, word-body, word-head8}
-use Rattle.splice.specs.Places.{place, byteAt}
+use Rattle.splice.specs.Places.{place, packedByte}
 use Rattle.splice.specs.Splices.{newByte, fourOf, newWord}
 use Rattle.splice.specs.declared.splicing.Plan.{Plan}
 use Rattle.splice.proofs.Messages.{head-word}
@@ -89,7 +89,7 @@ module _ (ws r : List ℕ) (plan : Plan) where
   abbrev tail : ℕ
   tail = plan .from + length r
 
-  pub new-low : (i : ℕ) → i < plan .from → newByte ws r plan i ≡ byteAt ws i
+  pub new-low : (i : ℕ) → i < plan .from → newByte ws r plan i ≡ packedByte ws i
   unfolding newByte
   new-low i h = rw (lt-ltb _ _ h)
 
@@ -97,7 +97,7 @@ module _ (ws r : List ℕ) (plan : Plan) where
   unfolding newByte
   new-mid i h l = rw (le-ltb _ _ h, lt-ltb _ _ l)
 
-  new-high : (i : ℕ) → tail ≤ i → plan .to + (i - tail) < plan .size → newByte ws r plan i ≡ byteAt ws (plan .to + (i - tail))
+  new-high : (i : ℕ) → tail ≤ i → plan .to + (i - tail) < plan .size → newByte ws r plan i ≡ packedByte ws (plan .to + (i - tail))
   unfolding newByte
   new-high i h l =
       let z : plan .from ≤ i = omega arith in
@@ -110,22 +110,22 @@ module _ (ws r : List ℕ) (plan : Plan) where
       rw (le-ltb _ _ z, le-ltb _ _ h, le-ltb _ _ l)
 
   -- four before the range, four of the replacement, and four of the tail
-  pub low-four : (i : ℕ) → i + 3 < plan .from → fourOf (byteAt ws) i ≡ fourOf (newByte ws r plan) i
-  low-four i h = four-same (byteAt ws) (newByte ws r plan) i i (λ d u. sym (new-low (i + d) (omega arith)))
+  pub low-four : (i : ℕ) → i + 3 < plan .from → fourOf (packedByte ws) i ≡ fourOf (newByte ws r plan) i
+  low-four i h = four-same (packedByte ws) (newByte ws r plan) i i (λ d u. sym (new-low (i + d) (omega arith)))
 
   pub replaced-four : (i j : ℕ) → plan .from ≤ i → j ≡ i - plan .from → j + 3 < length r → fourOf (λ x. getD r x 0) j ≡ fourOf (newByte ws r plan) i
   replaced-four i j h e l =
       four-same (λ x. getD r x 0) (newByte ws r plan) j i
       (λ d u. ap (λ (x : ℕ). getD r x 0) (omega arith) ∙ sym (new-mid (i + d) (omega arith) (omega arith)))
 
-  pub tail-four : (i j : ℕ) → tail ≤ i → j ≡ plan .to + (i - tail) → j + 3 < plan .size → fourOf (byteAt ws) j ≡ fourOf (newByte ws r plan) i
+  pub tail-four : (i j : ℕ) → tail ≤ i → j ≡ plan .to + (i - tail) → j + 3 < plan .size → fourOf (packedByte ws) j ≡ fourOf (newByte ws r plan) i
   tail-four i j h e l =
-      four-same (byteAt ws) (newByte ws r plan) j i (λ d u. ap (byteAt ws) (omega arith) ∙ sym (new-high (i + d) (omega arith) (omega arith)))
+      four-same (packedByte ws) (newByte ws r plan) j i (λ d u. ap (packedByte ws) (omega arith) ∙ sym (new-high (i + d) (omega arith) (omega arith)))
 
 -- byte i depends on where it comes from
 pub new-agree : (us ws r : List ℕ) (plan : Plan) (i : ℕ)
-    → (i < plan .from → byteAt us i ≡ byteAt ws i)
-    → (plan .from + length r ≤ i → byteAt us (plan .to + (i - (plan .from + length r))) ≡ byteAt ws (plan .to + (i - (plan .from + length r))))
+    → (i < plan .from → packedByte us i ≡ packedByte ws i)
+    → (plan .from + length r ≤ i → packedByte us (plan .to + (i - (plan .from + length r))) ≡ packedByte ws (plan .to + (i - (plan .from + length r))))
     → newByte us r plan i ≡ newByte ws r plan i
 new-agree us ws r plan i low high = go (side i (plan .from)) (side i (plan .from + length r)) (side (plan .to + (i - (plan .from + length r))) (plan .size))
   where
@@ -137,7 +137,7 @@ new-agree us ws r plan i low high = go (side i (plan .from)) (side i (plan .from
 
 -- what is read is the spliced payload's byte, where the bytes stand at their places
 pub new-byte-is : (ws r bs : List ℕ) (plan : Plan) → plan .from ≤ plan .to → plan .to ≤ plan .size → plan .size ≡ length bs
-    → ((j : ℕ) → j < length bs → getD bs j 0 ≡ byteAt ws j) → (i : ℕ) → newByte ws r plan i ≡ getD (spliced bs (plan .from) (plan .to) r) i 0
+    → ((j : ℕ) → j < length bs → getD bs j 0 ≡ packedByte ws j) → (i : ℕ) → newByte ws r plan i ≡ getD (spliced bs (plan .from) (plan .to) r) i 0
 new-byte-is ws r bs plan h k e level i = go (side i (plan .from)) (side i (plan .from + length r)) (side (plan .to + (i - (plan .from + length r))) (plan .size))
   where
     go : Side i (plan .from) → Side i (plan .from + length r) → Side (plan .to + (i - (plan .from + length r))) (plan .size) → newByte ws r plan i ≡ getD (spliced bs (plan .from) (plan .to) r) i 0

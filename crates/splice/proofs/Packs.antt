@@ -16,7 +16,7 @@ use Rattle.ump.proofs.Packing.{length-pack}
 use Rattle.ump.proofs.Message.{length-payload}
 use Rattle.ump.proofs.Payload.{payload-more, payload-mono, payload-at}
 use Rattle.splice.specs.Header.{baseOf}
-use Rattle.splice.specs.Passed.{Passed}
+use Rattle.splice.specs.Accepted.{Accepted}
 use Rattle.splice.specs.Places.{place, next}
 use Rattle.splice.specs.Pushing.{pushWords, pushOctets}
 use Rattle.splice.specs.Seam.{zeroed}
@@ -58,7 +58,7 @@ pub record Packs (w : List ℕ) (len n packet count byte m at octets : ℕ) (us 
   pub stands : at ≡ place m
   pub octets-fit : octets < 16777216
 
-module _ (w : List ℕ) (len n : ℕ) (ok : Passed w len n) where
+module _ (w : List ℕ) (len n : ℕ) (ok : Accepted w len n) where
   abbrev bytes : List ℕ
   bytes = payloadOf sysex8 w len
 

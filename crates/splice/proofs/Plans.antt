@@ -10,7 +10,7 @@ use Rattle.ump.specs.Packing.{wordsFor, pack}
 use Rattle.ump.specs.Check.{payloadOf}
 use Rattle.ump.specs.Splice.{spliced, rewritten}
 use Rattle.ump.proofs.Packing.{length-pack}
-use Rattle.splice.specs.Passed.{Passed, Full, Filled}
+use Rattle.splice.specs.Accepted.{Accepted, Full, Filled}
 use Rattle.splice.specs.Seam.{seam, zeroed}
 use Rattle.splice.specs.Splices.{Ready, Possible, newSize, headed, target}
 use Rattle.splice.specs.declared.splicing.Plan.{Plan}
@@ -21,7 +21,7 @@ use Rattle.splice.proofs.Targets.{words-new}
 use Rattle.splice.proofs.Heads.{heads-done}
 use Rattle.splice.proofs.Fewest.{length-packed-words, packed-passed, packed-group, packed-id, packed-payload, packed-full, packed-again}
 
-pub ready-when : (w r : List ℕ) (plan : Plan) → Passed w (plan .length) (plan .size) → Full w (plan .length)
+pub ready-when : (w r : List ℕ) (plan : Plan) → Accepted w (plan .length) (plan .size) → Full w (plan .length)
     → plan .from ≤ plan .to → plan .to ≤ plan .size → plan .total ≡ newSize (plan .size) (plan .from) (plan .to) r
     → plan .end ≡ wordsFor sysex8 (plan .total) → plan .end ≤ length w
     → plan .base ≡ word (80 + groupAt sysex8 w 0) 0 (octet (getD w 0 0) 2) 0 → Ready w r plan
@@ -59,10 +59,10 @@ module _ (w r : List ℕ) (plan : Plan) (ready : Ready w r plan) (small : (k : �
       ec ∙ ap (λ (l : List ℕ). zeroed l (plan .end) (plan .length)) e ∙ target-stored
 
 -- a message that is left as it is, and one that is packed
-pub filled-already : (w : List ℕ) (len n : ℕ) → Passed w len n → Full w len → Filled w len n w len
+pub filled-already : (w : List ℕ) (len n : ℕ) → Accepted w len n → Full w len → Filled w len n w len
 filled-already w len n ok full = record { passed = ok; full = full; long = refl; group = refl; id = refl; carries = refl; again = λ new. refl }
 
-pub filled-packed : (w us : List ℕ) (len n packed : ℕ) → Passed w len n → packed ≡ wordsFor sysex8 n → us ≡ rewritten sysex8 w len (payloadOf sysex8 w len) → Filled w len n us packed
+pub filled-packed : (w us : List ℕ) (len n packed : ℕ) → Accepted w len n → packed ≡ wordsFor sysex8 n → us ≡ rewritten sysex8 w len (payloadOf sysex8 w len) → Filled w len n us packed
 filled-packed w us len n packed ok length-is words-are =
     rw (length-is, words-are)
     (record {
@@ -92,7 +92,7 @@ module _ (w r us : List ℕ) (len n filled : ℕ) (full : Filled w len n us fill
 pub nothing-size : (n : ℕ) → newSize n n n [] ≡ n
 nothing-size n = omega arith
 
-pub nothing-possible : (w : List ℕ) (len n : ℕ) → Passed w len n → Possible w [] len n n n
+pub nothing-possible : (w : List ℕ) (len n : ℕ) → Accepted w len n → Possible w [] len n n n
 nothing-possible w len n ok = record {
   passed = ok;
   forward = omega arith;

@@ -14,7 +14,7 @@ use Rattle.ump.specs.Packet.{sysex8}
 use Rattle.ump.specs.Packing.{wordsFor, pack}
 use Rattle.ump.proofs.Packing.{length-pack}
 use Rattle.ump.proofs.Positions.{wordAt, getD-pack, word-body, word-head8}
-use Rattle.splice.specs.Header.{headOf}
+use Rattle.splice.specs.Header.{firstWordOf}
 use Rattle.splice.specs.Places.{place}
 use Rattle.splice.specs.Pushing.{pushWord, pushWords, pushOctets}
 use Rattle.splice.specs.Seam.{seam}
@@ -66,7 +66,7 @@ module _ (base g id n : ℕ) (f : ℕ → ℕ) (shared : base ≡ word (80 + g) 
   word-done m h = go (test (place m % 16) 3)
     where
       go : Test (place m % 16) 3
-          → cond (eqb (place m % 16) 3) (headOf base n (place m / 16) + f m) (pending f m * 256 + f m) ≡ wordAt sysex8 g (id ∷ []) n f (place m / 4)
+          → cond (eqb (place m % 16) 3) (firstWordOf base n (place m / 16) + f m) (pending f m * 256 + f m) ≡ wordAt sysex8 g (id ∷ []) n f (place m / 4)
       go (is z e) =
           let k : place m / 4 / 4 ≡ place m / 16 = omega (arith, place-is m) in
           let first : place m / 4 % 4 ≡ 0 = omega (arith, place-is m) in

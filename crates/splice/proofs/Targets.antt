@@ -15,7 +15,7 @@ use Rattle.ump.specs.Check.{payloadOf}
 use Rattle.ump.specs.Splice.{spliced}
 use Rattle.ump.proofs.Packing.{length-pack}
 use Rattle.ump.proofs.Splicing.{length-spliced}
-use Rattle.splice.specs.Places.{place, byteAt}
+use Rattle.splice.specs.Places.{place, packedByte}
 use Rattle.splice.specs.Seam.{seam}
 use Rattle.splice.specs.Splices.{Ready, newByte, newWord, turnOf, target}
 use Rattle.splice.specs.declared.splicing.Plan.{Plan}
@@ -28,8 +28,8 @@ use Rattle.splice.proofs.Levels.{level}
 use Rattle.splice.proofs.NewWords.{word-agree, word-is, new-agree, new-byte-is}
 
 -- byte i depends on one word
-byte-agree : (us ws : List ℕ) (i : ℕ) → getD us (place i / 4) 0 ≡ getD ws (place i / 4) 0 → byteAt us i ≡ byteAt ws i
-unfolding byteAt
+byte-agree : (us ws : List ℕ) (i : ℕ) → getD us (place i / 4) 0 ≡ getD ws (place i / 4) 0 → packedByte us i ≡ packedByte ws i
+unfolding packedByte
 byte-agree us ws i h = rw h
 
 -- the first word of the packet in which the range begins
@@ -83,7 +83,7 @@ module _ (w r : List ℕ) (plan : Plan) (ready : Ready w r plan) where
       → v ≡ newWord (plan .base) (plan .total) (newByte us r plan) k → set us k v ≡ seam k w (target w r plan)
   raise-step grows us k v le is e =
       let s = ready .sizes in
-      let old : (j : ℕ) → place j / 4 ≤ k → byteAt us j ≡ byteAt w j =
+      let old : (j : ℕ) → place j / 4 ≤ k → packedByte us j ≡ packedByte w j =
       λ j b. byte-agree us w j (ap (λ (l : List ℕ). getD l (place j / 4) 0) is ∙ seam-below (suc k) w (target w r plan) (place j / 4) (sym length-target) (omega arith)) in
       let word-e : v ≡ getD (target w r plan) k 0 =
       e ∙ target-word us k le
@@ -99,7 +99,7 @@ module _ (w r : List ℕ) (plan : Plan) (ready : Ready w r plan) where
       → v ≡ newWord (plan .base) (plan .total) (newByte us r plan) k → set us k v ≡ seam (k + 1) (behind w r plan) w
   lower-step shrinks us k v begun le is e =
       let s = ready .sizes in
-      let old : (j : ℕ) → k ≤ place j / 4 → byteAt us j ≡ byteAt w j =
+      let old : (j : ℕ) → k ≤ place j / 4 → packedByte us j ≡ packedByte w j =
       λ j b. byte-agree us w j (ap (λ (l : List ℕ). getD l (place j / 4) 0) is ∙ seam-from k (behind w r plan) w (place j / 4) length-behind b) in
       let word-e : v ≡ getD (behind w r plan) k 0 =
       e ∙ target-word us k le

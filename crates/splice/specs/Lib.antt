@@ -4,5 +4,5 @@ pub mod Seam
 pub mod Header
 pub mod Places
 pub mod Pushing
-pub mod Passed
+pub mod Accepted
 pub mod Splices

@@ -13,8 +13,8 @@ abbrev pub next : ℕ → ℕ
 next at = at + 1 + at % 16 / 15 * 3
 
 -- byte i
-unfoldable pub byteAt : List ℕ → ℕ → ℕ
-byteAt words i = octet (getD words (place i / 4) 0) (place i % 4)
+unfoldable pub packedByte : List ℕ → ℕ → ℕ
+packedByte words i = octet (getD words (place i / 4) 0) (place i % 4)
 
 -- the four octets of two words from octet i on
 abbrev pub cut : ℕ → ℕ → ℕ → ℕ

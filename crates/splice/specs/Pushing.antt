@@ -4,11 +4,11 @@ use mathlib.Core.List.{List}
 use Prim.Native.Nat.{ℕ, _+_, _*_, _/_, _%_}
 use lib.Dec.{eqb}
 use lib.ListN.{set}
-use Rattle.splice.specs.Header.{headOf}
+use Rattle.splice.specs.Header.{firstWordOf}
 
 -- the word with a byte put at octet `at` of the message, after the octets that it has
 unfoldable pub pushWord : ℕ → ℕ → ℕ → ℕ → ℕ → ℕ
-pushWord base n at octets byte = cond (eqb (at % 16) 3) (headOf base n (at / 16) + byte) (octets * 256 + byte)
+pushWord base n at octets byte = cond (eqb (at % 16) 3) (firstWordOf base n (at / 16) + byte) (octets * 256 + byte)
 
 unfoldable pub pushWords : ℕ → ℕ → ℕ → ℕ → ℕ → List ℕ → List ℕ
 pushWords base n at octets byte words = cond (eqb (at % 4) 3) (set words (at / 4) (pushWord base n at octets byte)) words

@@ -10,9 +10,9 @@ use Rattle.ump.specs.Packet.{sysex8, groupAt, idAt}
 use Rattle.ump.specs.Packing.{wordsFor, pack}
 use Rattle.ump.specs.Check.{payloadOf}
 use Rattle.ump.specs.Splice.{spliced}
-use Rattle.splice.specs.Header.{headOf}
-use Rattle.splice.specs.Places.{byteAt}
-use Rattle.splice.specs.Passed.{Passed, Full}
+use Rattle.splice.specs.Header.{firstWordOf}
+use Rattle.splice.specs.Places.{packedByte}
+use Rattle.splice.specs.Accepted.{Accepted, Full}
 use Rattle.splice.specs.declared.splicing.Plan.{Plan}
 
 -- the numbers of a splice in so many words, by so many bytes
@@ -30,7 +30,7 @@ pub record Sized (room added : ℕ) (plan : Plan) : Type 0 where
 -- and of a message whose packets are full but for the last
 pub record Ready (words replacement : List ℕ) (plan : Plan) : Type 0 where
   pub sizes : Sized (length words) (length replacement) plan
-  pub passed : Passed words (plan .length) (plan .size)
+  pub passed : Accepted words (plan .length) (plan .size)
   pub full : Full words (plan .length)
   pub shared : plan .base ≡ word (80 + groupAt sysex8 words 0) 0 (octet (getD words 0 0) 2) 0
 
@@ -40,7 +40,7 @@ newSize size from to replacement = size - (to - from) + length replacement
 
 -- what a splice asks of a message, a range and a replacement
 pub record Possible (words replacement : List ℕ) (len size from to : ℕ) : Type 0 where
-  pub passed : Passed words len size
+  pub passed : Accepted words len size
   pub forward : from ≤ to
   pub inside : to ≤ size
   pub room : wordsFor sysex8 (newSize size from to replacement) ≤ length words
@@ -49,9 +49,9 @@ pub record Possible (words replacement : List ℕ) (len size from to : ℕ) : Ty
 unfoldable pub newByte : List ℕ → List ℕ → Plan → ℕ → ℕ
 newByte words replacement plan i =
     let tail = plan .from + length replacement in
-    cond (ltb i (plan .from)) (byteAt words i)
+    cond (ltb i (plan .from)) (packedByte words i)
     (cond (ltb i tail) (getD replacement (i - plan .from) 0)
-    (cond (ltb (plan .to + (i - tail)) (plan .size)) (byteAt words (plan .to + (i - tail))) 0))
+    (cond (ltb (plan .to + (i - tail)) (plan .size)) (packedByte words (plan .to + (i - tail))) 0))
 
 -- four bytes from i on, as a word
 abbrev pub fourOf : (ℕ → ℕ) → ℕ → ℕ
@@ -60,7 +60,7 @@ fourOf f i = word (f i) (f (i + 1)) (f (i + 2)) (f (i + 3))
 -- word k of the fewest-packet form of n bytes, byte i of which is f i
 unfoldable pub newWord : ℕ → ℕ → (ℕ → ℕ) → ℕ → ℕ
 newWord base n f k =
-    cond (eqb (k % 4) 0) (headOf base n (k / 4) + f (13 * (k / 4))) (fourOf f (13 * (k / 4) + 4 * (k % 4) - 3))
+    cond (eqb (k % 4) 0) (firstWordOf base n (k / 4) + f (13 * (k / 4))) (fourOf f (13 * (k / 4) + 4 * (k % 4) - 3))
 
 -- the word that is written when so many are: from the last back, or from the first of the range's packet on
 unfoldable pub turnOf : Plan → ℕ → ℕ
@@ -70,8 +70,8 @@ turnOf plan done = cond (leb (plan .size) (plan .total)) (plan .end - 1 - done) 
 unfoldable pub headed : List ℕ → Plan → List ℕ
 headed words plan =
     let last = 4 * (plan .from / 13) - 4 in
-    let once = set words 0 (headOf (plan .base) (plan .total) 0 + getD words 0 0 % 256) in
-    cond (ltb (plan .from) 13) words (set once last (headOf (plan .base) (plan .total) (last / 4) + getD once last 0 % 256))
+    let once = set words 0 (firstWordOf (plan .base) (plan .total) 0 + getD words 0 0 % 256) in
+    cond (ltb (plan .from) 13) words (set once last (firstWordOf (plan .base) (plan .total) (last / 4) + getD once last 0 % 256))
 
 -- the words with the new message in place, and no word past it changed
 unfoldable pub target : List ℕ → List ℕ → Plan → List ℕ

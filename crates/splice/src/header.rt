@@ -2,7 +2,7 @@
 ghost use mathlib.Core.Path.{_≡_};
 ghost use Prim.Native.Nat.{suc, _+_, _-_, _*_, _/_, _%_, _≤_, _<_, min};
 ghost use Rattle.ump.specs.Packing.{statusFor};
-ghost use Rattle.splice.specs.Header.{headOf, baseOf};
+ghost use Rattle.splice.specs.Header.{firstWordOf, baseOf};
 
 // The status of packet `packet` of `packets`: complete; start, continue, end.
 fn status_for(packets: usize, packet: usize) -> u32
@@ -42,7 +42,7 @@ pub(crate) fn base_of(first: u32) -> u32
 // The first word of the packet at word `k` of a message of `size` bytes in `end` words, without its payload byte.
 pub(crate) fn head(base: u32, size: usize, end: usize, k: usize) -> u32
     requires { ⌜ (base < 4278255361) × ((end ≡ 4 * suc ((size - 1) / 13)) × (k < end)) ⌝ }
-    ensures { λ r. ⌜ (r ≡ headOf base size (k / 4)) × (r ≤ base + 4128768) ⌝ }
+    ensures { λ r. ⌜ (r ≡ firstWordOf base size (k / 4)) × (r ≤ base + 4128768) ⌝ }
 {
     let packet = k / 4;
     let status = status_for(end / 4, packet);

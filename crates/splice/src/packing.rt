@@ -6,7 +6,7 @@ ghost use Rattle.ump.specs.Packet.{sysex8};
 ghost use Rattle.ump.specs.Packing.{wordsFor};
 ghost use Rattle.ump.specs.Check.{payloadOf};
 ghost use Rattle.ump.specs.Splice.{rewritten};
-ghost use Rattle.splice.specs.Passed.{Passed};
+ghost use Rattle.splice.specs.Accepted.{Accepted};
 ghost use Rattle.splice.specs.Seam.{zeroed};
 ghost use Rattle.splice.specs.Pushing.{pushWords, pushOctets};
 use super::header::base_of;
@@ -77,7 +77,7 @@ pub(crate) fn carried_by(first: u32) -> usize
 
 // Rewrites a valid message of `size` payload bytes in fewest-packet form, byte by byte, and answers its new length.
 pub(crate) fn pack(words: &mut [u32], length: usize, size: usize) -> usize
-    requires { ⌜ Passed (now words) length size ⌝ }
+    requires { ⌜ Accepted (now words) length size ⌝ }
     ensures { λ r. ⌜ (r ≡ wordsFor sysex8 size) × (now (words .exit) ≡ rewritten sysex8 (now (words .entry)) length (payloadOf sysex8 (now (words .entry)) length)) ⌝ }
 {
     let base = base_of(words[0]);

@@ -3,7 +3,7 @@ ghost use mathlib.Core.Path.{_≡_};
 ghost use Prim.Native.Nat.{_+_, _/_, _<_};
 ghost use lib.ListN.{length, getD};
 ghost use Rattle.ump.specs.Word.{octet, word};
-ghost use Rattle.splice.specs.Places.{place, next, byteAt, cut};
+ghost use Rattle.splice.specs.Places.{place, next, packedByte, cut};
 
 // Octet `i` of a word.
 pub(crate) fn octet_of(word: u32, i: usize) -> u8
@@ -34,7 +34,7 @@ pub(crate) fn next_place(at: usize) -> usize
 // Payload byte `i` of a message that has 13 in every packet but the last.
 pub(crate) fn byte_at(words: &[u32], i: usize) -> u8
     requires { ⌜ (i < 65536) × (place i / 4 < length (now words)) ⌝ }
-    ensures { λ r. ⌜ r ≡ byteAt (now (words .entry)) i ⌝ }
+    ensures { λ r. ⌜ r ≡ packedByte (now (words .entry)) i ⌝ }
 {
     let at = i + 3 * (i / 13 + 1);
     octet_of(words[at / 4], at % 4)
@@ -52,7 +52,7 @@ fn cut_at(first: u32, second: u32, i: usize) -> u32
 // Its payload bytes `i` to `i + 3`, as a word.
 pub(crate) fn four_at(words: &[u32], i: usize) -> u32
     requires { ⌜ (i < 65536) × (place (i + 3) / 4 < length (now words)) ⌝ }
-    ensures { λ r. ⌜ r ≡ word (byteAt (now (words .entry)) i) (byteAt (now (words .entry)) (i + 1)) (byteAt (now (words .entry)) (i + 2)) (byteAt (now (words .entry)) (i + 3)) ⌝ }
+    ensures { λ r. ⌜ r ≡ word (packedByte (now (words .entry)) i) (packedByte (now (words .entry)) (i + 1)) (packedByte (now (words .entry)) (i + 2)) (packedByte (now (words .entry)) (i + 3)) ⌝ }
 {
     let byte = i % 13;
     let at = i + 3 * (i / 13 + 1);

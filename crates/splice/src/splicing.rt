@@ -7,7 +7,7 @@ ghost use Rattle.ump.specs.Packet.{sysex8};
 ghost use Rattle.ump.specs.Packing.{wordsFor};
 ghost use Rattle.ump.specs.Check.{payloadOf};
 ghost use Rattle.ump.specs.Splice.{spliced, rewritten};
-ghost use Rattle.splice.specs.Passed.{Passed, Full, Filled};
+ghost use Rattle.splice.specs.Accepted.{Accepted, Full, Filled};
 ghost use Rattle.splice.specs.Seam.{seam};
 ghost use Rattle.splice.specs.Splices.{Sized, Ready, Possible, newSize, newByte, fourOf, newWord, turnOf, headed, target};
 use super::header::base_of;
@@ -154,7 +154,7 @@ fn splice_full(words: &mut [u32], replacement: &[u8], plan: Plan)
 
 // Whether every packet but the last is full: only then do the others carry as much as they can.
 fn is_full(words: &[u32], length: usize, size: usize) -> bool
-    requires { ⌜ Passed (now words) length size ⌝ }
+    requires { ⌜ Accepted (now words) length size ⌝ }
     ensures { λ r. ⌜ (r ≡ true → Full (now (words .entry)) length) ⌝ }
 {
     let last = carried_by(words[length - 4]);
@@ -163,7 +163,7 @@ fn is_full(words: &[u32], length: usize, size: usize) -> bool
 
 // Packs a valid message unless every packet but its last is full, and answers its length.
 fn fill(words: &mut [u32], length: usize, size: usize) -> usize
-    requires { ⌜ Passed (now words) length size ⌝ }
+    requires { ⌜ Accepted (now words) length size ⌝ }
     ensures { λ r. ⌜ Filled (now (words .entry)) length size (now (words .exit)) r ⌝ }
 {
     if is_full(words, length, size) {
@@ -203,7 +203,7 @@ pub(crate) fn splice(
 
 // Rewrites a valid message in fewest-packet form, and answers its length: the splice of nothing at its end.
 pub(crate) fn repack(words: &mut [u32], length: usize, size: usize) -> usize
-    requires { ⌜ Passed (now words) length size ⌝ }
+    requires { ⌜ Accepted (now words) length size ⌝ }
     ensures { λ r. ⌜ (r ≡ wordsFor sysex8 size) × (now (words .exit) ≡ rewritten sysex8 (now (words .entry)) length (payloadOf sysex8 (now (words .entry)) length)) ⌝ }
 {
     splice(words, b"", length, size, size, size)

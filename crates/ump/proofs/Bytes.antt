@@ -1,5 +1,5 @@
 -- Single payload bytes: where they stand, in document 01's own formula. Assumes nothing.
-use mathlib.Core.Path.{_≡_, refl, sym, ap, _∙_}
+use mathlib.Core.Path.{_≡_, sym, ap, _∙_}
 use mathlib.Core.List.{List, map}
 use Prim.Native.Nat.{ℕ, _+_, _-_, _*_, _/_, _%_, _^_, _≤_, _<_}
 use native.Mathlib.Nat.{zero-mod}
@@ -7,7 +7,7 @@ use native.Mathlib.Omega.{arith}
 use lib.ListN.{length, getD, take, drop, length-map, length-take, length-drop, List·getD-map}
 use lib.Pow.{mod-mod-pow}
 use lib.Seq.{getD-take, getD-drop}
-use Rattle.ump.specs.Word.{octetField, shift, part, octet, octets}
+use Rattle.ump.specs.Word.{octetField, shift, octet, octets}
 use Rattle.ump.specs.Packet.{Shape, header, countAt, sizeAt, packet, payloadAt, placeWord, placeOctet, byteAt}
 use Rattle.ump.proofs.Words.{getD-octets, length-octets}
 use Rattle.ump.proofs.Sizes.{size-small}

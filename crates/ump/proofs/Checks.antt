@@ -8,9 +8,9 @@ use native.Mathlib.Omega.{arith}
 use lib.Dec.{eqb, ltb}
 use borrow.Author.Tests.{ltb-false, le-ltb, eqb-true, eq-eqb, not-false}
 use lib.ListN.{length}
-use Rattle.refusal.specs.Answer.{Answer, gives, refused, Verdict, pass, _▷_, guard}
+use Rattle.refusal.specs.Answer.{gives, refused, Verdict, pass, _▷_, guard}
 use Rattle.refusal.proofs.Laws.{never-refused}
-use Rattle.ump.specs.Packet.{Shape, groupAt, countAt, idAt}
+use Rattle.ump.specs.Packet.{Shape, countAt, idAt}
 use Rattle.ump.specs.Check.{first, sweep, statusNumber, same, badType, badStatus, badCount, badGroup, badId, checkPackets, check, Valid}
 use Rattle.ump.proofs.Sizes.{words-pos}
 use Rattle.ump.proofs.First.{first-none, first-before}

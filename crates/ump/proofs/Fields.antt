@@ -114,8 +114,8 @@ module _ (kind : Field) (x i : ℕ) where
 -- ---- what is read after a field was set
 
 -- field i of one kind and field j of another share no bit
-abbrev pub Apart : Field → ℕ → Field → ℕ → Type 0
-Apart kind i other j = (shift other j + other .width ≤ shift kind i) ⊎ (shift kind i + kind .width ≤ shift other j)
+abbrev pub Disjoint : Field → ℕ → Field → ℕ → Type 0
+Disjoint kind i other j = (shift other j + other .width ≤ shift kind i) ⊎ (shift kind i + kind .width ≤ shift other j)
 
 -- of two fields of a kind, the later ends where the earlier begins, or before
 shift-below : (kind : Field) → kind .width ≤ kind .step → (i j : ℕ) → i < j → j < kind .count
@@ -135,10 +135,10 @@ module _ (kind : Field) (x i value y : ℕ) (answered : setField kind x i value 
       get-given kind y i (told .there) ∙ ap gives (rw (told .word) (part-set x (shift kind i) (kind .width) value (told .fits)))
 
   -- a field of any kind that shares no bit with it reads as it did, and an index past its kind is refused as it was
-  pub reads-apart : (other : Field) (j : ℕ) → (j < other .count → Apart kind i other j) → getField other y j ≡ getField other x j
+  pub reads-apart : (other : Field) (j : ℕ) → (j < other .count → Disjoint kind i other j) → getField other y j ≡ getField other x j
   reads-apart other j apart = go (decLt j (other .count))
     where
-      same : Apart kind i other j → part y (shift other j) (other .width) ≡ part x (shift other j) (other .width)
+      same : Disjoint kind i other j → part y (shift other j) (other .width) ≡ part x (shift other j) (other .width)
       same (inl below) = rw (told .word) (part-below x (shift kind i) (kind .width) value (told .fits) _ _ below)
       same (inr past) = rw (told .word) (part-past x (shift kind i) (kind .width) value (told .fits) _ _ past)
 
@@ -150,7 +150,7 @@ module _ (kind : Field) (x i value y : ℕ) (answered : setField kind x i value 
   pub reads-other : kind .width ≤ kind .step → (j : ℕ) → (i ≡ j → ⊥) → getField kind y j ≡ getField kind x j
   reads-other narrow j differs = reads-apart kind j (λ below. go below (decLt i j))
     where
-      go : j < kind .count → Dec (i < j) → Apart kind i kind j
+      go : j < kind .count → Dec (i < j) → Disjoint kind i kind j
       go below (yes later) = inl (shift-below kind narrow i j later below)
       go below (no f) = inr (shift-below kind narrow j i (omega arith) (told .there))
 

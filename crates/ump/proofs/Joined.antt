@@ -1,13 +1,12 @@
 -- Laws of `joined`: parts one after the other. Assumes nothing.
-use mathlib.Core.Path.{_≡_, refl, sym, ap, ap₂, _∙_, subst}
+use mathlib.Core.Path.{_≡_, refl, sym, ap, _∙_}
 use mathlib.Core.Logic.{_≢_}
 use mathlib.Core.List.{List, [], _∷_, _++_, append-assoc, append-nil}
-use Prim.Native.Nat.{ℕ, zero, suc, _+_, _-_, _*_, _≤_, _<_}
-use native.Mathlib.Nat.{add-zero, add-suc, le-suc, lt-suc-self, mul-suc, mul-zero, zero-add, suc-add}
-use native.Mathlib.Numerals.{add-one, add-two, add-three}
+use Prim.Native.Nat.{ℕ, zero, suc, _+_, _-_, _*_, _<_}
+use native.Mathlib.Nat.{add-zero, add-suc, mul-suc, mul-zero, zero-add, suc-add}
 use native.Mathlib.Omega.{arith}
-use lib.ListN.{length, getD, take, drop, set, length-append}
-use lib.Seq.{take-at, drop-at, take-add, take-all, set-append-left, drop-drop, sets-eq}
+use lib.ListN.{length, take, drop, set, length-append}
+use lib.Seq.{take-at, drop-at, take-add, set-append-left}
 use Rattle.ump.specs.Packet.{joined}
 
 pub joined-cong : (f g : ℕ → List ℕ) (n : ℕ) → ((p : ℕ) → p < n → f p ≡ g p) → joined f n ≡ joined g n
@@ -47,10 +46,6 @@ unfolding joined
 joined-chunks bs w zero = rw mul-zero
 joined-chunks bs w (suc n) = rw (joined-chunks bs w n, mul-suc) (sym (take-add (w * n) w bs))
 
--- a list of w * n that is made of the parts of f is their join: what a loop that writes part after part shows
-pub joined-from : (f : ℕ → List ℕ) (l : List ℕ) (w n : ℕ) → ((p : ℕ) → p < n → take w (drop (w * p) l) ≡ f p) → take (w * n) l ≡ joined f n
-joined-from f l w n h = sym (joined-chunks l w n) ∙ joined-cong (λ p. take w (drop (w * p) l)) f n h
-
 pub set-append-add : (xs ys : List ℕ) (i b : ℕ) → set (xs ++ ys) (length xs + i) b ≡ xs ++ set ys i b
 set-append-add [] ys i b = rw zero-add
 set-append-add (x ∷ xs) ys i b = rw (suc-add, set-append-add xs ys i b)
@@ -70,23 +65,3 @@ joined-set f g n p i b h k e o =
     (ap (λ (l : List ℕ). set l (length (joined f p) + i) b) (joined-around f n p h)
     ∙ set-append-add (joined f p) (f p ++ joined (λ q. f (suc p + q)) (n - suc p)) i b
     ∙ ap (λ (l : List ℕ). joined f p ++ l) (set-append-left (f p) (joined (λ q. f (suc p + q)) (n - suc p)) i b k))
-
--- a turn of a loop that writes part p over the words that stand there
-pub joined-step : (f : ℕ → List ℕ) (w p : ℕ) (ws₀ ws ws′ : List ℕ) → length (joined f p) ≡ w * p
-    → ws ≡ joined f p ++ drop (w * p) ws₀ → ws′ ≡ take (w * p) ws ++ (f p ++ drop (w * p + w) ws)
-    → ws′ ≡ joined f (p + 1) ++ drop (w * (p + 1)) ws₀
-unfolding joined
-joined-step f w p ws₀ ws ws′ l e e′ =
-    let j = joined f p in
-    let d = drop (w * p) ws₀ in
-    let k : w * (p + 1) ≡ w * p + w = omega arith in
-    let before : take (w * p) ws ≡ j = rw e (take-at j d (w * p) l) in
-    let behind : drop (w * p + w) ws ≡ drop (w * p + w) ws₀ =
-    rw (e, ← (drop-drop w (w * p) (j ++ d)), drop-at j d (w * p) l) (drop-drop w (w * p) ws₀)
-    in
-    e′ ∙ rw (before, behind, k, add-one, append-assoc)
-
--- four stores side by side
-pub store-four : (l : List ℕ) (i a b c d : ℕ) → i + 4 ≤ length l
-    → set (set (set (set l i a) (i + 1) b) (i + 2) c) (i + 3) d ≡ take i l ++ ((a ∷ b ∷ c ∷ d ∷ []) ++ drop (i + 4) l)
-store-four l i a b c d h = rw (add-one, add-two, add-three) (sets-eq (a ∷ b ∷ c ∷ d ∷ []) l i h ∙ append-assoc (take i l) (a ∷ b ∷ c ∷ d ∷ []) (drop (i + 4) l))

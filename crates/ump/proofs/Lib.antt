@@ -17,3 +17,4 @@ pub mod Setting
 pub mod Reading
 pub mod Streaming
 pub mod Payload
+pub mod Singles

@@ -5,11 +5,11 @@ use Prim.Native.Nat.{ℕ, zero, suc, _*_, _/_, _≤_, _<_}
 use native.Mathlib.Nat.{mul-div-right, mul-le-mul-left}
 use native.Mathlib.Omega.{arith}
 use lib.ListN.{length, length-append, length-map, length-take}
-use Rattle.refusal.specs.Answer.{Answer, gives, _▷_}
+use Rattle.refusal.specs.Answer.{gives}
 use Rattle.ump.specs.Word.{Below}
 use Rattle.ump.specs.Packet.{Shape, groupAt, countAt, idAt, payloadAt, joined, payload}
 use Rattle.ump.specs.Packing.{packs, packetsFor, wordsFor, chunk, pack}
-use Rattle.ump.specs.Check.{check, payloadOf, Summary, checked, Valid}
+use Rattle.ump.specs.Check.{payloadOf, checked, Valid}
 use Rattle.ump.proofs.Sizes.{words-pos, size-small, packets-pos, packets-least}
 use Rattle.ump.proofs.Packing.{length-packs, type-packs, group-packs, status-packs, count-packs, id-packs, payload-packs, length-chunk, below-chunk, joined-chunk}
 use Rattle.ump.proofs.Checks.{valid-passes}

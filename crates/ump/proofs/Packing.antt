@@ -1,15 +1,10 @@
 -- A packing, and so the fewest-packet form, is read back as what it was made of. Assumes nothing.
-use mathlib.Core.Path.{_≡_, refl, sym, ap, ap₂, _∙_, subst}
-use mathlib.Core.Bool.{Bool, true, false, cond}
-use mathlib.Core.Logic.{_≢_}
-use mathlib.Core.List.{List, [], _∷_, _++_, map, append-assoc, append-nil}
-use Prim.Native.Nat.{ℕ, zero, suc, _+_, _-_, _*_, _/_, _%_, _^_, _≤_, _<_, min}
-use native.Mathlib.Nat.{add-zero, add-suc, mul-suc, mul-zero, div-add-mod', mod-lt, mul-le-mul-left}
+use mathlib.Core.Path.{_≡_, refl, sym, ap, _∙_}
+use mathlib.Core.List.{List, [], _∷_, _++_, map}
+use Prim.Native.Nat.{ℕ, _+_, _-_, _*_, _%_, _≤_, _<_}
 use native.Mathlib.Omega.{arith}
-use lib.Dec.{eqb}
-use borrow.Author.Tests.{eq-eqb, ne-eqb}
 use lib.ListN.{length, getD, take, drop, replicate, length-append, length-take, length-drop, length-replicate}
-use lib.Seq.{take-at, drop-at, take-add, take-all, getD-drop, getD-take, take-take, take-append-le, drop-drop}
+use lib.Seq.{take-at, drop-at, take-all, getD-drop, getD-take, take-take, drop-drop}
 use Rattle.ump.specs.Word.{nibble, octet, word, octets, wordsOf, Below}
 use Rattle.ump.specs.Packet.{joined, Shape, firstWord, typeAt, groupAt, statusAt, countAt, idAt, sizeOf, packet, payloadAt, fillerAt, payload}
 use Rattle.ump.specs.Packing.{statusFor, frame, packetsFor, wordsFor, chunk, packsAt, packs, pack}

@@ -1,19 +1,19 @@
 -- The fewest-packet form by position: what each octet and each word of it is. Assumes nothing.
 use mathlib.Core.Path.{_≡_, refl, sym, ap, _∙_}
-use mathlib.Core.Bool.{Bool, true, false, cond}
+use mathlib.Core.Bool.{cond}
 use mathlib.Core.List.{List, [], _∷_, _++_, append-nil}
 use Prim.Native.Nat.{ℕ, zero, suc, _+_, _-_, _*_, _/_, _%_, _≤_, _<_, min}
 use native.Mathlib.Nat.{div-add-mod, mod-lt, div-lt-iff-lt-mul, mul-comm}
 use native.Mathlib.Omega.{arith}
 use lib.Dec.{ltb}
-use lib.ListN.{length, getD, take, drop, replicate, length-append, length-take, length-drop, length-replicate, List·getD-append}
+use lib.ListN.{length, getD, drop, replicate, length-take, length-drop, List·getD-append}
 use lib.Seq.{getD-take, getD-drop, getD-append-add}
 use borrow.Author.Tests.{le-ltb}
-use Rattle.ump.specs.Word.{word, wordsOf}
-use Rattle.ump.specs.Packet.{Shape, sysex8, sysex7, header, packet}
+use Rattle.ump.specs.Word.{word}
+use Rattle.ump.specs.Packet.{Shape, sysex8, sysex7, header}
 use Rattle.ump.specs.Packing.{statusFor, frame, packsAt, packs, packetsFor, wordsFor, chunk, pack}
 use Rattle.ump.proofs.Words.{getD-wordsOf}
-use Rattle.ump.proofs.Sizes.{words-pos, packets-begin}
+use Rattle.ump.proofs.Sizes.{words-pos}
 use Rattle.ump.proofs.Packing.{length-frame, length-chunk, packet-packs}
 use Rattle.ump.proofs.First.{Side, under, over, side}
 

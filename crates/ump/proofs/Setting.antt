@@ -10,7 +10,7 @@ use native.Mathlib.Omega.{arith}
 use lib.Dec.{ltb}
 use lib.ListN.{length, getD, take, drop, set, length-append, length-set, length-drop, List·getD-append}
 use lib.Seq.{getD-drop, take-set-le, drop-set-add, drop-set-lt, getD-set-other, getD-set-same, getD-append-add, ext-getD}
-use borrow.Author.Tests.{ltb-true, ltb-false, lt-ltb, le-ltb, lt-leb}
+use borrow.Author.Tests.{ltb-true, ltb-false, le-ltb, lt-leb}
 use Rattle.refusal.specs.Answer.{gives, Verdict, pass}
 use Rattle.ump.specs.Word.{nibbleField, octetField, shift, part, withPart, nibble, octet}
 use Rattle.ump.specs.Packet.{Shape, sysex8, header, firstWord, groupAt, countAt, idAt, sizeAt, packet, payloadAt, placeWord, placeOctet, byteAt, joined, payload}
@@ -18,9 +18,9 @@ use Rattle.ump.specs.Check.{check, payloadOf, Summary, checked, Valid}
 use Rattle.ump.specs.Single.{withGroup}
 use Rattle.ump.specs.Setters.{packetOf, byteIn, storeByte, setByte, onHeads, setGroup, withId, setId}
 use Rattle.ump.proofs.Fields.{part-set, part-below, part-past}
-use Rattle.ump.proofs.Joined.{joined-cong, joined-add, joined-around, joined-set}
+use Rattle.ump.proofs.Joined.{joined-cong, joined-around, joined-set}
 use Rattle.ump.proofs.Sizes.{words-pos, size-small}
-use Rattle.ump.proofs.First.{Side, under, over, side, first-is, first-at, first-before}
+use Rattle.ump.proofs.First.{Side, under, over, side, first-at, first-before}
 use Rattle.ump.proofs.Checks.{passes-valid, valid-passes}
 use Rattle.ump.proofs.Message.{checked-valid}
 use Rattle.ump.proofs.Bytes.{length-payloadAt, getD-payloadAt}
@@ -341,21 +341,6 @@ pub length-payload-suc : (shape : Shape) (words : List ℕ) (p : ℕ)
     → length (payload shape words (suc p)) ≡ length (payload shape words p) + length (payloadAt shape words p)
 unfolding payload joined
 length-payload-suc shape words p = simp length-append
-
-length-payload-le : (shape : Shape) (words : List ℕ) (m n : ℕ) → m ≤ n → length (payload shape words m) ≤ length (payload shape words n)
-unfolding payload
-length-payload-le shape words m n h =
-    let e : n ≡ m + (n - m) = omega arith in
-    rw (e, joined-add (payloadAt shape words) m (n - m), length-append) (omega arith)
-
--- what a walk over the packets shows where it stops: the packet that byte i stands in is the one whose bytes reach past it
-pub packetOf-is : (shape : Shape) (words : List ℕ) (n i p : ℕ) → p < n → length (payload shape words p) ≤ i
-    → i < length (payload shape words (suc p)) → packetOf shape words n i ≡ p
-unfolding packetOf
-packetOf-is shape words n i p below before reached =
-    first-is (λ q. ltb i (length (payload shape words (suc q)))) n p (omega arith)
-    (λ q h. le-ltb i (length (payload shape words (suc q))) (omega (arith, length-payload-le shape words (suc q) p h)))
-    (λ h. lt-ltb _ _ reached)
 
 module _ (shape : Shape) (words : List ℕ) (n i : ℕ) (inside : i < length (payload shape words n)) where
   abbrev holder : ℕ

@@ -1,13 +1,13 @@
 -- Ranges moved by signed growth, as the source has it, are those of `moved`. Assumes nothing.
-use mathlib.Core.Path.{_≡_, refl, sym, ap, ap₂, _∙_, subst}
+use mathlib.Core.Path.{_≡_, refl, sym, ap, ap₂, _∙_}
 use mathlib.Core.Bool.{Bool, true, false, cond}
-use mathlib.Core.List.{List, [], _∷_}
+use mathlib.Core.List.{List}
 use Prim.Native.Nat.{ℕ, zero, suc, _+_, _-_, _≤_, _<_}
 use native.Mathlib.Omega.{arith}
 use lib.ListN.{length}
 use lib.Signed.{mag}
 use Rattle.ump.proofs.First.{Side, under, over, side}
-use lib.IntN.{ℤ, pos, negsuc, _+ℤ_, _-ℤ_, negℤ, subℕ, +ℤ-assoc, +ℤ-comm, negℤ-+ℤ, pos-+ℤ-pos, +ℤ-idr}
+use lib.IntN.{ℤ, pos, _+ℤ_, _-ℤ_, negℤ, subℕ, +ℤ-assoc, +ℤ-comm, negℤ-+ℤ, +ℤ-idr}
 use Rattle.ump.specs.Edits.{Edit, movedPast, Patch, patchAt, editAt, elem, total, added, removed, moved, growth, totalℤ, grown}
 use borrow.Author.Tests.{le-ltb}
 

@@ -2,7 +2,7 @@
 use mathlib.Core.Path.{_≡_, refl, sym, ap, _∙_}
 use mathlib.Core.Bool.{Bool, true, false, cond}
 use mathlib.Core.Logic.{_≢_}
-use Prim.Native.Nat.{ℕ, zero, suc, _+_, _-_, _*_, _/_, _%_, _^_, _≤_, _<_}
+use Prim.Native.Nat.{ℕ, zero, suc, _+_, _-_, _*_, _/_, _≤_, _<_}
 use native.Mathlib.Nat.{zero-div, add-div-right, div-add-mod', mod-lt, mul-suc, mul-le-mul-left, le-div-iff-mul-le, div-mul-le-self, div-lt-iff-lt-mul, mul-pos}
 use native.Mathlib.Omega.{arith}
 use lib.Dec.{eqb, leb}
@@ -62,11 +62,6 @@ module _ (s : Shape) where
       let k : suc p < suc ((n - 1) / s .room) = rw (packets-are n) at h in
       let l : s .room * suc p ≤ s .room * ((n - 1) / s .room) = mul-le-mul-left (s .room) (omega arith) in
       omega (arith, l, div-add-mod' (n - 1) (s .room), mul-suc (s .room) p, s .some-room)
-
-  -- packet p begins inside the payload, or at its end
-  pub packets-begin : (n p : ℕ) → p < packetsFor s n → s .room * p ≤ n
-  packets-begin n zero h = omega arith
-  packets-begin n (suc p) h = omega (arith, packets-fewest n p h)
 
   -- any packets that hold the bytes are no fewer
   pub packets-least : (m n : ℕ) → 0 < n → m ≤ s .room * n → packetsFor s m ≤ n

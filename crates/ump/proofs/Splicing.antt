@@ -1,21 +1,20 @@
 -- What is written to a message is the fewest-packet form of its new payload; and so it is after many splices, in any order.
 -- Assumes nothing.
-use mathlib.Core.Path.{_≡_, refl, sym, ap, _∙_, subst}
-use mathlib.Core.Bool.{Bool, true, false, _||_}
-use mathlib.Core.List.{List, [], _∷_, _++_}
-use Prim.Native.Nat.{ℕ, zero, suc, _+_, _-_, _*_, _/_, _≤_, _<_, max}
+use mathlib.Core.Path.{_≡_, refl, sym, _∙_, subst}
+use mathlib.Core.Bool.{true, false}
+use mathlib.Core.List.{List, [], _∷_}
+use Prim.Native.Nat.{ℕ, zero, suc, _+_, _-_, _/_, _≤_, _<_}
 use native.Mathlib.Nat.{le-trans}
 use native.Mathlib.Omega.{arith}
-use lib.Dec.{ltb, eqb, T}
 use lib.IntN.{ℤ, pos, _-ℤ_}
-use lib.ListN.{length, take, drop, replicate, length-append, length-take, length-drop, length-replicate}
+use lib.ListN.{length, take, drop, length-append, length-take, length-drop, length-replicate}
 use lib.Seq.{take-at}
-use borrow.Author.Tests.{le-ltb, eqb-true}
-use Rattle.refusal.specs.Answer.{Answer, gives, refused, pass, _▷_, guard, writes}
+use borrow.Author.Tests.{le-ltb}
+use Rattle.refusal.specs.Answer.{Answer, gives, pass}
 use Rattle.ump.specs.Word.{octet, octets, Below}
 use Rattle.ump.specs.Packet.{Shape, header, firstWord, sizeAt, groupAt, idAt, packet, payloadAt, joined, payload}
 use Rattle.ump.specs.Packing.{wordsFor, pack}
-use Rattle.ump.specs.Check.{check, payloadOf, Valid}
+use Rattle.ump.specs.Check.{check, payloadOf}
 use Rattle.ump.specs.Splice.{spliced, stored, rewritten, repack, Spliced, splice}
 use Rattle.ump.specs.Edits.{Patch, patchAt, Apart, replaced, elem, allBytes, moved, run, Order}
 use Rattle.ump.specs.Demand.{Holds, Packed}

@@ -1,10 +1,10 @@
 -- Laws of words and octets. Assumes nothing.
-use mathlib.Core.Path.{_≡_, refl, sym, ap, ap₂, _∙_, subst}
+use mathlib.Core.Path.{_≡_, refl, sym, ap, _∙_}
 use mathlib.Core.List.{List, [], _∷_, _++_, map}
 use Prim.Native.Nat.{ℕ, zero, suc, _+_, _-_, _*_, _/_, _%_, _^_, _≤_, _<_}
-use native.Mathlib.Nat.{mul-suc, le-of-suc-le-suc, mod-lt, mod-eq-of-lt}
+use native.Mathlib.Nat.{mod-lt, mod-eq-of-lt}
 use native.Mathlib.Omega.{arith}
-use lib.ListN.{length, getD, take, drop, set, replicate, length-append}
+use lib.ListN.{length, getD, take, drop, set, replicate}
 use lib.Pow.{recompose, mod-pow-add}
 use Rattle.ump.specs.Word.{octetField, shift, withPart, nibble, octet, word, octets, wordsOf, Below}
 

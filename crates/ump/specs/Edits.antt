@@ -1,6 +1,6 @@
 -- Edits of one payload: moving one, all of a list at once, and one after the other in any order.
 -- Assumes nothing.
-use mathlib.Core.Bool.{Bool, true, false, not, cond, _||_}
+use mathlib.Core.Bool.{Bool, false, not, cond, _||_}
 use mathlib.Core.List.{List, [], _∷_, _++_}
 use Prim.Native.Nat.{ℕ, zero, suc, _+_, _-_, _*_, _/_, _%_, _≤_, _<_}
 use lib.Dec.{T, eqb, ltb}

@@ -1,10 +1,10 @@
 -- `message::bytes::copy_packet`: byte after byte of the packet's payload. Assumes nothing.
 use borrow.Author.Needs.{needs}
 use mathlib.Core.Path.{_≡_, refl, sym, ap, _∙_}
-use Prim.Native.Nat.{ℕ, _≤_, _<_, _*_, _-_, _+_}
+use Prim.Native.Nat.{ℕ, _≤_, _<_, _-_, _+_}
 use native.Mathlib.Numerals.{add-one}
 use native.Mathlib.Omega.{arith}
-use lib.ListN.{length, getD, set, length-set}
+use lib.ListN.{length, getD, length-set}
 use lib.Seq.{paste, paste-zero, paste-suc}
 use Rattle.ump.specs.Packet.{sysex8, sizeAt, countAt, payloadAt}
 use Rattle.ump.proofs.Sizes.{size-of-count}

@@ -1,8 +1,6 @@
 -- `message::bytes::locate`: no packet passed reaches the byte. Assumes nothing.
-use mathlib.Core.Path.{_≡_}
 use Prim.Native.Nat.{_-_, _<_}
 use native.Mathlib.Omega.{arith}
-use Rattle.message.specs.Scan.{Counted}
 use Rattle.message.proofs.Laws.{Here, here}
 use Rattle.message.proofs.Sizes.{Seeking, seek-start, seek-below, seek-more, seek-found}
 use Rattle.message.proofs.bytes.locate.Statement.{statement}

@@ -1,6 +1,4 @@
 -- `message::scan::count_packets`: each return is a case of `boundsOf`. Assumes nothing.
-use mathlib.Core.Path.{ap}
-use mathlib.Core.Bool.{not}
 use borrow.Author.Needs.{needs}
 use borrow.Author.Tests.{lt-ltb, le-ltb, eq-eqb, ne-eqb}
 use Rattle.message.specs.Scan.{boundsOf}

@@ -1,13 +1,5 @@
 -- `message::scan::find_fault`: each return is a stage of the check, those before it having found nothing. Assumes nothing.
 use borrow.Author.Needs.{needs}
-use mathlib.Core.Path.{_≡_, refl, sym, ap, ap₂, _∙_}
-use Prim.Native.Nat.{ℕ, _*_, _≤_, _<_}
-use native.Mathlib.Nat.{mul-le-mul-left}
-use native.Mathlib.Omega.{arith}
-use Rattle.refusal.specs.Answer.{refused}
-use Rattle.ump.specs.Check.{first}
-use Rattle.ump.proofs.First.{first-le}
-use Rattle.message.specs.Scan.{Inside}
 use Rattle.message.proofs.Laws.{begins, found-fits}
 use Rattle.message.proofs.Stages.{foreign-fault, step-fault, count-fault, group-fault, stream-fault}
 use Rattle.message.proofs.scan.find_fault.Statement.{statement}

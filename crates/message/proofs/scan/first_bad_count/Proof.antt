@@ -1,11 +1,7 @@
 -- `message::scan::first_bad_count`: the count is in range at every packet that is passed. Assumes nothing.
-use mathlib.Core.Path.{_≡_, refl, ap, sym, _∙_, subst}
-use mathlib.Core.Bool.{Bool, not, true, false, _||_}
-use Prim.Native.Nat.{ℕ, _*_, _+_, _-_, _≤_, _<_}
+use mathlib.Core.Path.{sym, _∙_}
+use Prim.Native.Nat.{_-_, _<_}
 use native.Mathlib.Omega.{arith}
-use borrow.Author.Tests.{lt-ltb, le-ltb}
-use lib.Dec.{ltb}
-use Rattle.ump.specs.Check.{badCount}
 use Rattle.ump.proofs.First.{Passed, passed-zero, passed-one, passed-end, passed-here}
 use Rattle.message.specs.Scan.{countOut}
 use Rattle.message.proofs.Laws.{Here, here, count-low, count-high, count-in}

@@ -1,12 +1,9 @@
 -- `message::scan::in_order`: every packet passed is in order, and the size is that of their payload. Assumes nothing.
 use borrow.Author.Needs.{needs}
-use mathlib.Core.Path.{_≡_, refl, sym, ap, _∙_}
-use mathlib.Core.List.{List}
-use Prim.Native.Nat.{ℕ, _+_, _-_, _*_, _/_, _%_, _^_, _≤_, _<_}
+use mathlib.Core.Path.{_≡_, sym, _∙_}
+use Prim.Native.Nat.{_-_, _*_, _^_, _<_}
 use native.Mathlib.Omega.{arith}
-use lib.ListN.{length, getD}
-use Rattle.ump.specs.Packing.{statusFor}
-use Rattle.message.specs.Scan.{Inside, Shaped}
+use lib.ListN.{getD}
 use Rattle.message.proofs.Laws.{Here, here, begins, lt-irrefl}
 use Rattle.message.proofs.InOrder.{Numbers, SoFar, first-octet, octet-first, passes-numbers, numbers-pass, so-far-none, so-far-more}
 use Rattle.message.proofs.scan.in_order.Statement.{statement}

@@ -1,6 +1,6 @@
 -- `message::scan::scan_message`: the first four tests, then the packets. Assumes nothing.
 use borrow.Author.Needs.{needs}
-use mathlib.Core.Path.{_≡_, sym, ap, _∙_, subst}
+use mathlib.Core.Path.{sym, ap, _∙_, subst}
 use lib.ListN.{length}
 use Rattle.message.specs.Scan.{boundsMeaning, InOrder}
 use Rattle.message.proofs.Bounds.{Framed, bounds-framed, framed-inside, some-packet, scan-size, scan-fault, scan-bounds}

@@ -1,15 +1,13 @@
 -- `message::sysex8::byte`: the check, then Range, then the byte where it stands. Assumes nothing.
 use borrow.Author.Needs.{needs}
-use mathlib.Core.Path.{_≡_, refl, sym, ap, ap₂, _∙_, subst}
-use Prim.Native.Nat.{ℕ, _+_, _*_, _/_, _≤_, _<_}
-use native.Mathlib.Omega.{arith}
+use mathlib.Core.Path.{sym, ap, _∙_}
 use borrow.Author.Tests.{le-leb, lt-leb}
 use lib.ListN.{length}
 use Rattle.refusal.specs.Answer.{gives}
-use Rattle.ump.specs.Packet.{sysex8, byteAt, payload}
+use Rattle.ump.specs.Packet.{sysex8}
 use Rattle.ump.specs.Setters.{getByte}
 use Rattle.message.specs.Meaning.{checkMeaning8}
-use Rattle.message.proofs.Checked.{shaped8, Taken, taken, not-taken, taken-inside, taken-counted}
+use Rattle.message.proofs.Checked.{shaped8, Taken, taken, not-taken, taken-inside}
 use Rattle.message.proofs.Places.{Standing, standing, wide-counted, index-below}
 use Rattle.message.proofs.sysex8.byte.Statement.{statement}
 use Rattle.message.proofs.sysex8.byte.Tie as tie

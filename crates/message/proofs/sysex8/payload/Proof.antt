@@ -1,7 +1,6 @@
 -- `message::sysex8::payload`: the check, then Room, then packet after packet. Assumes nothing.
 use borrow.Author.Needs.{needs}
-use mathlib.Core.Path.{_≡_, refl, sym, ap, _∙_}
-use native.Mathlib.Omega.{arith}
+use mathlib.Core.Path.{sym, ap, _∙_}
 use borrow.Author.Tests.{lt-ltb, le-ltb}
 use Rattle.refusal.specs.Answer.{gives}
 use Rattle.ump.specs.Packet.{sysex8}

@@ -1,12 +1,10 @@
 -- `message::sysex8::set_byte`: the check, then Range, then one store where the byte stands. Assumes nothing.
 use borrow.Author.Needs.{needs}
-use mathlib.Core.Path.{_≡_, refl, sym, ap, _∙_}
-use Prim.Native.Nat.{_<_}
-use native.Mathlib.Omega.{arith}
+use mathlib.Core.Path.{sym, ap, _∙_}
 use borrow.Author.Tests.{le-leb, lt-leb}
 use Rattle.refusal.specs.Answer.{pass}
 use Rattle.ump.specs.Packet.{sysex8}
-use Rattle.ump.specs.Setters.{storeByte, setByte}
+use Rattle.ump.specs.Setters.{setByte}
 use Rattle.message.specs.Meaning.{checkMeaning8}
 use Rattle.message.proofs.Checked.{shaped8, Taken, taken, not-taken, taken-inside}
 use Rattle.message.proofs.Places.{Standing, standing, wide-counted, index-below}

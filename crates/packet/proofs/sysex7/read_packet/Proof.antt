@@ -5,13 +5,13 @@ use denote.Ref.{now}
 use Rattle.ump.specs.Packet.{sysex7}
 use Rattle.ump.specs.Single.{readPacket7}
 use Rattle.packet.specs.Meaning.{decidedMeaning}
-use Rattle.packet.proofs.Laws.{packetOf, reader7, short, foreign, ours}
+use Rattle.packet.proofs.Laws.{packetFrom, reader7, short, foreign, ours}
 use Rattle.packet.proofs.sysex7.read_packet.Statement.{statement}
 use Rattle.packet.proofs.sysex7.read_packet.Tie as tie
 
 decided : (c : tie.After-decide)
     → let words = now (c .before .before .before .before .before .args .words) in
-    packetOf sysex7 words (decidedMeaning (c .decide .result)) ≡ readPacket7 words
+    packetFrom sysex7 words (decidedMeaning (c .decide .result)) ≡ readPacket7 words
 decided c =
     let type = c .before in
     ours reader7 _ (c .decide .ensures) (type .before .before .if1 .left) (type .if2 .left)

@@ -6,13 +6,13 @@ use Rattle.ump.specs.Packet.{sysex8}
 use Rattle.ump.specs.Single.{readPacket8}
 use Rattle.packet.specs.Meaning.{decidedMeaning}
 use Rattle.packet.specs.Steps.{decide8}
-use Rattle.packet.proofs.Laws.{packetOf, reader8, short, foreign, ours}
+use Rattle.packet.proofs.Laws.{packetFrom, reader8, short, foreign, ours}
 use Rattle.packet.proofs.sysex8.read_packet.Statement.{statement}
 use Rattle.packet.proofs.sysex8.read_packet.Tie as tie
 
 decided : (c : tie.After-decide)
     → let words = now (c .before .before .before .before .before .before .args .words) in
-    packetOf sysex8 words (decidedMeaning (c .decide .result)) ≡ readPacket8 words
+    packetFrom sysex8 words (decidedMeaning (c .decide .result)) ≡ readPacket8 words
 decided c =
     let blank = c .before in
     let type = blank .before in

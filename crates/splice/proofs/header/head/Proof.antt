@@ -4,12 +4,12 @@ use Prim.Native.Nat.{ℕ, suc, _-_, _/_}
 use native.Mathlib.Omega.{arith}
 use borrow.Author.Needs.{needs}
 use Rattle.ump.specs.Packing.{statusFor}
-use Rattle.splice.specs.Header.{headOf}
+use Rattle.splice.specs.Header.{firstWordOf}
 use Rattle.splice.proofs.header.head.Statement.{statement}
 use Rattle.splice.proofs.header.head.Tie as tie
 
 returns : tie.Need-returns
-unfolding headOf
+unfolding firstWordOf
 returns c =
     let x = c .before .before .args in
     let packets : x .end / 4 ≡ suc ((x .size - 1) / 13) = omega arith in

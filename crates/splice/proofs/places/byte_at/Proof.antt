@@ -1,11 +1,11 @@
 -- `byte_at` meets its contract. Assumes nothing.
 use borrow.Author.Needs.{needs}
-use Rattle.splice.specs.Places.{byteAt}
+use Rattle.splice.specs.Places.{packedByte}
 use Rattle.splice.proofs.places.byte_at.Statement.{statement}
 use Rattle.splice.proofs.places.byte_at.Tie as tie
 
 returns : tie.Need-returns
-unfolding byteAt
+unfolding packedByte
 returns c = search needs
 
 pub byte-at-spec : {M : Type 1} → statement M

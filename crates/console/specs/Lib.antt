@@ -1,0 +1,2 @@
+-- What is read from standard input.
+pub mod Input

@@ -1,0 +1,44 @@
+-- What the steps of writing a listing answer.
+-- Assumes nothing.
+use mathlib.Core.Path.{_≡_}
+use mathlib.Core.Bool.{cond, _||_}
+use mathlib.Core.List.{List, _++_}
+use Prim.Native.Nat.{ℕ, _+_}
+use lib.Dec.{ltb}
+use lib.ListN.{length, take, drop}
+use Rattle.refusal.specs.Answer.{Answer, gives, refused}
+use Rattle.ump.specs.Check.{Summary}
+use Rattle.ump.specs.Single.{Kind, complete, start, continue, end, unexpectedEnd}
+use Rattle.listing.specs.Listing.{wordsIn, checkedIn, listing}
+
+-- a piece was written into a text, which is otherwise as it was, and this is how far it goes
+pub record Wrote (before : List ℕ) (at : ℕ) (after : List ℕ) (to : ℕ) (piece : List ℕ) : Type 0 where
+  pub far : to ≡ at + length piece
+  pub text : after ≡ take at before ++ (piece ++ drop (at + length piece) before)
+
+-- the status of a kind; an unexpected end is an end
+abbrev pub statusOf : Kind → ℕ
+statusOf complete = 0
+statusOf start = 1
+statusOf continue = 2
+statusOf end = 3
+statusOf (unexpectedEnd valid) = 3
+
+-- numbers at the front of what is lent; the rest stays
+abbrev pub over : List ℕ → List ℕ → List ℕ
+over new old = new ++ drop (length new) old
+
+-- the words lent, after the words of the bytes were stored
+unfoldable pub wordsAfter : Answer (List ℕ) → List ℕ → List ℕ
+wordsAfter (gives words) old = over words old
+wordsAfter (refused number place) old = old
+
+-- the words stored, unless they are refused: what the check says, and the words lent after
+unfoldable pub load : List ℕ → List ℕ → Answer Summary × List ℕ
+load bytes words = (checkedIn (wordsIn bytes), wordsAfter (wordsIn bytes) words)
+
+-- Room where fewer than 16,384 words or 98,560 bytes of text are lent; else the size of the listing, the words and the text after
+unfoldable pub list : List ℕ → List ℕ → List ℕ → Answer ℕ × (List ℕ × List ℕ)
+list bytes words text =
+    cond (ltb (length words) 16384 || ltb (length text) 98560) (refused 14 0, (words, text))
+    (gives (length (listing bytes)), (wordsAfter (wordsIn bytes) words, over (listing bytes) text))

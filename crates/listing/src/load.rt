@@ -1,0 +1,59 @@
+// The words of the bytes, and the check of the message that they are.
+ghost use mathlib.Core.Path.{_≡_};
+ghost use Prim.Native.Nat.{_*_, _≤_};
+ghost use lib.ListN.{length};
+ghost use Rattle.ump.specs.Word.{word, wordsOf};
+ghost use Rattle.message.specs.Meaning.{checkMeaning8};
+ghost use Rattle.listing.specs.Steps.{over, load as Steps·load};
+use message::sysex8::Checked;
+use refusal::Fault;
+use refusal::Refusal;
+
+// The word of four bytes, highest first.
+fn word_of(first: u8, second: u8, third: u8, fourth: u8) -> u32
+    ensures { λ r. ⌜ r ≡ word first second third fourth ⌝ }
+{
+    first as u32 * 0x100_0000 + second as u32 * 0x1_0000 + third as u32 * 0x100 + fourth as u32
+}
+
+// Stores the words of the bytes, `count` of them.
+fn store_words(bytes: &[u8], words: &mut [u32], count: usize)
+    requires { ⌜ (length (now bytes) ≡ 4 * count) × (count ≤ length (now words)) ⌝ }
+    ensures { λ r. ⌜ now (words .exit) ≡ over (wordsOf (now (bytes .entry))) (now (words .entry)) ⌝ }
+{
+    let mut index = 0;
+    while index < count {
+        let at = 4 * index;
+        words[index] = word_of(bytes[at], bytes[at + 1], bytes[at + 2], bytes[at + 3]);
+        index += 1;
+    }
+}
+
+// Over 65,536 bytes is Long, else under 16 is Short, else not divisible by 16 is Ragged; else the words are stored and checked.
+pub(crate) fn load(bytes: &[u8], words: &mut [u32]) -> Checked
+    requires { ⌜ 16384 ≤ length (now words) ⌝ }
+    ensures { λ r. ⌜ (checkMeaning8 r, now (words .exit)) ≡ Steps·load (now (bytes .entry)) (now (words .entry)) ⌝ }
+{
+    let size = bytes.len();
+    if size > 65536 {
+        return Checked::Refused(Fault {
+            refusal: Refusal::Long,
+            place: 0,
+        });
+    }
+    if size < 16 {
+        return Checked::Refused(Fault {
+            refusal: Refusal::Short,
+            place: 0,
+        });
+    }
+    if size % 16 != 0 {
+        return Checked::Refused(Fault {
+            refusal: Refusal::Ragged,
+            place: 0,
+        });
+    }
+    let count = size / 4;
+    store_words(bytes, words, count);
+    message::sysex8::check(&words[..count], count)
+}

@@ -1,0 +1,4 @@
+// The program on no bytes: refused 3.
+fn main() {
+    console::run();
+}

@@ -79,15 +79,15 @@ module _ (w r : List ℕ) (plan : Plan) (ready : Ready w r plan) (small : (k : �
       ∙ first-made k (getD w k 0) (omega arith) z refl
 
   -- any word but the first words of the first packet and of the last before the range's
-  same : (k : ℕ) → (k ≡ 0 → ⊥) → (k ≡ low plan - 4 → ⊥) → getD (behind w r plan ready) k 0 ≡ getD T k 0
+  same : (k : ℕ) → (k ≡ 0 → ⊥) → (k ≡ low plan - 4 → ⊥) → getD (behind w r plan) k 0 ≡ getD T k 0
   same k a b = go (side k (low plan)) (row k)
     where
-      go : Side k (low plan) → Row k → getD (behind w r plan ready) k 0 ≡ getD T k 0
+      go : Side k (low plan) → Row k → getD (behind w r plan) k 0 ≡ getD T k 0
       go (over h _) _ = seam-from (low plan) w T k (sym (length-target w r plan ready)) h
       go (under h _) (first z) = seam-below (low plan) w T k (sym (length-target w r plan ready)) h ∙ same-first k z (omega arith) (omega arith)
       go (under h _) (other z _) = seam-below (low plan) w T k (sym (length-target w r plan ready)) h ∙ same-other k h z
 
-  heads-none : plan .from < 13 → behind w r plan ready ≡ T
+  heads-none : plan .from < 13 → behind w r plan ≡ T
   heads-none h =
       let z : low plan ≡ 0 = omega arith in
       rw z
@@ -97,7 +97,7 @@ module _ (w r : List ℕ) (plan : Plan) (ready : Ready w r plan) (small : (k : �
     last = low plan - 4
 
     abbrev old : List ℕ
-    old = behind w r plan ready
+    old = behind w r plan
 
     reach : (low plan ≤ length w) × (length old ≡ length w)
     reach = (omega (arith, low-reach w r plan ready, ready .sizes .fits), length-seam (low plan) w T (sym (length-target w r plan ready)) ∙ length-target w r plan ready)
@@ -138,10 +138,10 @@ module _ (w r : List ℕ) (plan : Plan) (ready : Ready w r plan) (small : (k : �
             ∙ getD-set-other old 0 k (firstWordOf (plan .base) (plan .total) 0 + getD old 0 0 % 256) 0 m
             ∙ same k m n
 
-  pub heads-done : headed (behind w r plan ready) plan ≡ T
+  pub heads-done : headed (behind w r plan) plan ≡ T
   unfolding headed
   heads-done = go (side (plan .from) 13)
     where
-      go : Side (plan .from) 13 → headed (behind w r plan ready) plan ≡ T
+      go : Side (plan .from) 13 → headed (behind w r plan) plan ≡ T
       go (under h e) = rw e (heads-none h)
       go (over h e) = rw e (heads-some h)

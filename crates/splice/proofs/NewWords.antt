@@ -13,7 +13,7 @@ use Rattle.ump.specs.Splice.{spliced}
 use Rattle.ump.proofs.First.{Side, under, over, side}
 use Rattle.ump.proofs.Positions.{wordAt, word-body, word-head8}
 use Rattle.splice.specs.Places.{place, packedByte}
-use Rattle.splice.specs.Splices.{newByte, newWord}
+use Rattle.splice.specs.Splices.{newByte, fourOf, newWord}
 use Rattle.splice.specs.declared.splicing.Plan.{Plan}
 use Rattle.splice.proofs.Messages.{head-word}
 use Rattle.splice.proofs.Seams.{getD-past}
@@ -31,10 +31,6 @@ row k = go (k % 4) refl
     go : (r : ℕ) → k % 4 ≡ r → Row k
     go zero e = first e
     go (suc r) e = other (λ z. omega arith) (omega arith)
-
--- four bytes from i on
-abbrev pub fourOf : (ℕ → ℕ) → ℕ → ℕ
-fourOf f i = word (f i) (f (i + 1)) (f (i + 2)) (f (i + 3))
 
 four-same : (f h : ℕ → ℕ) (i j : ℕ) → ((d : ℕ) → d < 4 → f (i + d) ≡ h (j + d)) → fourOf f i ≡ fourOf h j
 four-same f h i j at =

@@ -3,7 +3,7 @@ use mathlib.Core.Path.{_≡_}
 use mathlib.Core.Bool.{cond}
 use mathlib.Core.List.{List, _++_}
 use Prim.Native.Nat.{ℕ, suc, _+_, _-_, _*_, _/_, _%_, _≤_, _<_}
-use lib.Dec.{eqb, ltb}
+use lib.Dec.{eqb, leb, ltb}
 use lib.ListN.{length, drop, getD, set}
 use Rattle.ump.specs.Word.{word, octet}
 use Rattle.ump.specs.Packet.{sysex8, groupAt, idAt}
@@ -53,11 +53,18 @@ newByte words replacement plan i =
     (cond (ltb i tail) (getD replacement (i - plan .from) 0)
     (cond (ltb (plan .to + (i - tail)) (plan .size)) (packedByte words (plan .to + (i - tail))) 0))
 
+-- four bytes from i on, as a word
+abbrev pub fourOf : (ℕ → ℕ) → ℕ → ℕ
+fourOf f i = word (f i) (f (i + 1)) (f (i + 2)) (f (i + 3))
+
 -- word k of the fewest-packet form of n bytes, byte i of which is f i
 unfoldable pub newWord : ℕ → ℕ → (ℕ → ℕ) → ℕ → ℕ
 newWord base n f k =
-    let i = 13 * (k / 4) + 4 * (k % 4) - 3 in
-    cond (eqb (k % 4) 0) (firstWordOf base n (k / 4) + f (13 * (k / 4))) (word (f i) (f (i + 1)) (f (i + 2)) (f (i + 3)))
+    cond (eqb (k % 4) 0) (firstWordOf base n (k / 4) + f (13 * (k / 4))) (fourOf f (13 * (k / 4) + 4 * (k % 4) - 3))
+
+-- the word that is written when so many are: from the last back, or from the first of the range's packet on
+unfoldable pub turnOf : Plan → ℕ → ℕ
+turnOf plan done = cond (leb (plan .size) (plan .total)) (plan .end - 1 - done) (4 * (plan .from / 13) + done)
 
 -- the words with the first words of the first and of the last packet before the range made anew
 unfoldable pub headed : List ℕ → Plan → List ℕ

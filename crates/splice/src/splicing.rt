@@ -3,14 +3,13 @@ ghost use mathlib.Core.Path.{_≡_};
 ghost use mathlib.Core.Bool.{true};
 ghost use Prim.Native.Nat.{suc, _+_, _-_, _*_, _/_, _≤_, _<_};
 ghost use lib.ListN.{length};
-ghost use Rattle.ump.specs.Word.{word};
 ghost use Rattle.ump.specs.Packet.{sysex8};
 ghost use Rattle.ump.specs.Packing.{wordsFor};
 ghost use Rattle.ump.specs.Check.{payloadOf};
 ghost use Rattle.ump.specs.Splice.{spliced, rewritten};
-ghost use Rattle.splice.specs.Accepted.{Accepted, Full};
+ghost use Rattle.splice.specs.Accepted.{Accepted, Full, Filled};
 ghost use Rattle.splice.specs.Seam.{seam};
-ghost use Rattle.splice.specs.Splices.{Sized, Ready, Possible, newSize, newByte, newWord, headed, target};
+ghost use Rattle.splice.specs.Splices.{Sized, Ready, Possible, newSize, newByte, fourOf, newWord, turnOf, headed, target};
 use super::header::base_of;
 use super::header::head;
 use super::packing::carried_by;
@@ -53,16 +52,38 @@ fn new_byte(words: &[u32], replacement: &[u8], plan: Plan, i: usize) -> u8
     0
 }
 
-// Bytes `i` to `i + 3` of the new payload, as a word.
-fn new_four(words: &[u32], replacement: &[u8], plan: Plan, i: usize) -> u32
+// Bytes `i` to `i + 3` of the new payload, one by one, as a word.
+fn new_bytes(words: &[u32], replacement: &[u8], plan: Plan, i: usize) -> u32
     requires { ⌜ (Sized (length (now words)) (length (now replacement)) plan) × (i < 65532) ⌝ }
-    ensures { λ r. ⌜ r ≡ word (newByte (now (words .entry)) (now (replacement .entry)) plan i) (newByte (now (words .entry)) (now (replacement .entry)) plan (i + 1)) (newByte (now (words .entry)) (now (replacement .entry)) plan (i + 2)) (newByte (now (words .entry)) (now (replacement .entry)) plan (i + 3)) ⌝ }
+    ensures { λ r. ⌜ r ≡ fourOf (newByte (now (words .entry)) (now (replacement .entry)) plan) i ⌝ }
 {
     let a = new_byte(words, replacement, plan, i);
     let b = new_byte(words, replacement, plan, i + 1);
     let c = new_byte(words, replacement, plan, i + 2);
     let d = new_byte(words, replacement, plan, i + 3);
     word_of(a, b, c, d)
+}
+
+// The same, at once where all four come from behind the range or from the replacement.
+fn new_four(words: &[u32], replacement: &[u8], plan: Plan, i: usize) -> u32
+    requires { ⌜ (Sized (length (now words)) (length (now replacement)) plan) × (i < 65532) ⌝ }
+    ensures { λ r. ⌜ r ≡ fourOf (newByte (now (words .entry)) (now (replacement .entry)) plan) i ⌝ }
+{
+    let from = plan.from;
+    let tail = from + replacement.len();
+    if tail <= i {
+        let source = plan.to + (i - tail);
+        if source + 3 < plan.size {
+            return four_at(words, source);
+        }
+        return new_bytes(words, replacement, plan, i);
+    }
+    if from <= i {
+        if i + 3 < tail {
+            return four_of(replacement, i - from);
+        }
+    }
+    new_bytes(words, replacement, plan, i)
 }
 
 // Word `k` of the new message.
@@ -76,73 +97,32 @@ fn new_word(words: &[u32], replacement: &[u8], plan: Plan, k: usize) -> u32
         let byte = new_byte(words, replacement, plan, 13 * packet);
         return head(plan.base, plan.total, plan.end, k) + byte as u32;
     }
-    let first = 13 * packet + 4 * row - 3;
-    let from = plan.from;
-    if from <= first {
-        let i = first - from;
-        if i + 3 < replacement.len() {
-            return four_of(replacement, i);
-        }
-    }
-    new_four(words, replacement, plan, first)
+    new_four(words, replacement, plan, 13 * packet + 4 * row - 3)
 }
 
-// Writes the new message from its last word back to the packet in which the range begins: for a payload that does not shrink.
-fn raise(words: &mut [u32], replacement: &[u8], plan: Plan)
-    requires { ⌜ (Ready (now words) (now replacement) plan) × (plan .size ≤ plan .total) ⌝ }
-    ensures { λ _. ⌜ now (words .exit) ≡ seam (4 * (plan .from / 13)) (now (words .entry)) (target (now (words .entry)) (now (replacement .entry)) plan) ⌝ }
+// The word that is written when `done` are: from the last back if the payload does not shrink, else from the first on.
+fn turn(plan: Plan, done: usize) -> usize
+    requires { ⌜ (4 * (plan .from / 13) + done < plan .end) × (plan .end ≤ 16384) ⌝ }
+    ensures { λ r. ⌜ (r ≡ turnOf plan done) × (r < plan .end) ⌝ }
 {
-    let to = plan.to;
-    let size = plan.size;
-    let tail = plan.from + replacement.len();
-    let low = 4 * (plan.from / 13);
-    let mut k = plan.end;
-    while low < k {
-        k -= 1;
-        let row = k % 4;
-        if 0 < row {
-            let first = 13 * (k / 4) + 4 * row - 3;
-            if tail <= first {
-                let source = to + (first - tail);
-                if source + 3 < size {
-                    let word = four_at(words, source);
-                    words[k] = word;
-                    continue;
-                }
-            }
-        }
-        let word = new_word(words, replacement, plan, k);
-        words[k] = word;
+    if plan.size <= plan.total {
+        return plan.end - 1 - done;
     }
+    4 * (plan.from / 13) + done
 }
 
-// Writes the new message from the packet in which the range begins on to its last word: for a payload that does not grow.
-fn lower(words: &mut [u32], replacement: &[u8], plan: Plan)
-    requires { ⌜ (Ready (now words) (now replacement) plan) × (plan .total ≤ plan .size) ⌝ }
+// Writes the new message from the packet in which the range begins on, in an order in which no byte is written over before it is read.
+fn write(words: &mut [u32], replacement: &[u8], plan: Plan)
+    requires { ⌜ Ready (now words) (now replacement) plan ⌝ }
     ensures { λ _. ⌜ now (words .exit) ≡ seam (4 * (plan .from / 13)) (now (words .entry)) (target (now (words .entry)) (now (replacement .entry)) plan) ⌝ }
 {
-    let to = plan.to;
-    let size = plan.size;
-    let end = plan.end;
-    let tail = plan.from + replacement.len();
-    let mut k = 4 * (plan.from / 13);
-    while k < end {
-        let row = k % 4;
-        if 0 < row {
-            let first = 13 * (k / 4) + 4 * row - 3;
-            if tail <= first {
-                let source = to + (first - tail);
-                if source + 3 < size {
-                    let word = four_at(words, source);
-                    words[k] = word;
-                    k += 1;
-                    continue;
-                }
-            }
-        }
+    let count = plan.end - 4 * (plan.from / 13);
+    let mut done = 0;
+    while done < count {
+        let k = turn(plan, done);
         let word = new_word(words, replacement, plan, k);
         words[k] = word;
-        k += 1;
+        done += 1;
     }
 }
 
@@ -160,18 +140,6 @@ fn put_heads(words: &mut [u32], plan: Plan)
     let k = 4 * (from / 13) - 4;
     let last = head(plan.base, plan.total, plan.end, k) + words[k] % 0x100;
     words[k] = last;
-}
-
-// Writes the new message from the packet in which the range begins on.
-fn write(words: &mut [u32], replacement: &[u8], plan: Plan)
-    requires { ⌜ Ready (now words) (now replacement) plan ⌝ }
-    ensures { λ _. ⌜ now (words .exit) ≡ seam (4 * (plan .from / 13)) (now (words .entry)) (target (now (words .entry)) (now (replacement .entry)) plan) ⌝ }
-{
-    if plan.size <= plan.total {
-        raise(words, replacement, plan);
-        return;
-    }
-    lower(words, replacement, plan);
 }
 
 // The splice of a message whose packets are full but for the last.
@@ -193,6 +161,17 @@ fn is_full(words: &[u32], length: usize, size: usize) -> bool
     size == 13 * (length / 4 - 1) + last
 }
 
+// Packs a valid message unless every packet but its last is full, and answers its length.
+fn fill(words: &mut [u32], length: usize, size: usize) -> usize
+    requires { ⌜ Accepted (now words) length size ⌝ }
+    ensures { λ r. ⌜ Filled (now (words .entry)) length size (now (words .exit)) r ⌝ }
+{
+    if is_full(words, length, size) {
+        return length;
+    }
+    pack(words, length, size)
+}
+
 // Replaces the payload bytes `from..to` of a valid message and writes the fewest-packet form; answers its length.
 pub(crate) fn splice(
     words: &mut [u32],
@@ -205,25 +184,12 @@ pub(crate) fn splice(
     requires { ⌜ Possible (now words) (now replacement) length size from to ⌝ }
     ensures { λ r. ⌜ (r ≡ wordsFor sysex8 (newSize size from to (now (replacement .entry)))) × (now (words .exit) ≡ rewritten sysex8 (now (words .entry)) length (spliced (payloadOf sysex8 (now (words .entry)) length) from to (now (replacement .entry)))) ⌝ }
 {
+    let base = base_of(words[0]);
     let total = size - (to - from) + replacement.len();
     let end = words_needed(total);
-    let base = base_of(words[0]);
-    if is_full(words, length, size) {
-        let plan = Plan {
-            length,
-            size,
-            from,
-            to,
-            total,
-            end,
-            base,
-        };
-        splice_full(words, replacement, plan);
-        return end;
-    }
-    let packed = pack(words, length, size);
+    let filled = fill(words, length, size);
     let plan = Plan {
-        length: packed,
+        length: filled,
         size,
         from,
         to,
@@ -233,4 +199,12 @@ pub(crate) fn splice(
     };
     splice_full(words, replacement, plan);
     end
+}
+
+// Rewrites a valid message in fewest-packet form, and answers its length: the splice of nothing at its end.
+pub(crate) fn repack(words: &mut [u32], length: usize, size: usize) -> usize
+    requires { ⌜ Accepted (now words) length size ⌝ }
+    ensures { λ r. ⌜ (r ≡ wordsFor sysex8 size) × (now (words .exit) ≡ rewritten sysex8 (now (words .entry)) length (payloadOf sysex8 (now (words .entry)) length)) ⌝ }
+{
+    splice(words, b"", length, size, size, size)
 }

@@ -1,11 +1,10 @@
--- `new_word` meets its contract: a first word, four bytes of the replacement, or four of anything. Assumes nothing.
+-- `new_word` meets its contract: a first word, or four bytes. Assumes nothing.
 use mathlib.Core.Path.{_∙_}
-use Prim.Native.Nat.{_-_, _*_, _/_, _%_, _+_}
 use native.Mathlib.Omega.{arith}
 use borrow.Author.Needs.{needs}
 use borrow.Author.Tests.{eq-eqb}
 use Rattle.splice.specs.Splices.{newByte, newWord}
-use Rattle.splice.proofs.NewWords.{word-other, replaced-four}
+use Rattle.splice.proofs.NewWords.{word-other}
 use Rattle.splice.proofs.splicing.new_word.Statement.{statement}
 use Rattle.splice.proofs.splicing.new_word.Tie as tie
 
@@ -16,15 +15,7 @@ returns c =
 
 returns-2 : tie.Need-returns-2
 returns-2 c =
-    let x = c .before .before .before .before .before .before .args in
-    let f = newByte (x .words .now) (x .replacement .now) (x .plan) in
-    c .four-of .ensures
-    ∙ replaced-four (x .words .now) (x .replacement .now) (x .plan) (13 * (x .k / 4) + 4 * (x .k % 4) - 3) _ (omega arith) (omega arith) (omega arith)
-    ∙ word-other (x .plan .base) (x .plan .total) f (x .k) (λ z. omega arith)
-
-returns-3 : tie.Need-returns-3
-returns-3 c =
-    let x = c .before .before .before .before .before .args in
+    let x = c .before .before .before .before .args in
     c .new-four .ensures ∙ word-other (x .plan .base) (x .plan .total) (newByte (x .words .now) (x .replacement .now) (x .plan)) (x .k) (λ z. omega arith)
 
 pub new-word-spec : {M : Type 1} → statement M
@@ -41,8 +32,5 @@ new-word-spec =
     (λ c. search needs)
     (λ c. search needs)
     (λ c. search needs)
-    (λ c. search needs)
     (λ c κs. search needs)
-    returns-2
-    (λ c κs. search needs)
-    returns-3)
+    returns-2)

@@ -12,6 +12,7 @@ use Rattle.ump.specs.Edits.{Edit, Patch, patchAt, endBefore, Apart, replaced, p
 use Rattle.ump.proofs.First.{Side, under, over, side}
 use Rattle.ump.proofs.Replace.{mixed-all, size-mixed, total-cong, elem-other}
 use Rattle.edit.specs.Listed.{widths, sizeAfter, listed}
+use Rattle.edit.specs.Passes.{put, out}
 use Rattle.edit.proofs.Lists.{bad-none, overlap-none, list-passes}
 
 -- ---- apart
@@ -71,13 +72,6 @@ elem-below (suc m) i h = go (side i m) (elem-below m i)
     go : Side i m → (i < m → elem i (below m) ≡ true) → elem i (below (suc m)) ≡ true
     go (under k e) ih = elem-other m i (below m) (omega arith) ∙ ih k
     go (over k e) ih = let q : i ≡ m = omega arith in rw (eq-eqb i m q)
-
--- bytes that patch i puts in, and bytes that it takes out
-abbrev pub put : List Patch → ℕ → ℕ
-put patches i = length (patchAt patches i .bytes)
-
-abbrev pub out : List Patch → ℕ → ℕ
-out patches i = patchAt patches i .to - patchAt patches i .from
 
 pub size-replaced : (p : List ℕ) (es : List Patch) → Apart es (length p)
     → length (replaced p es) + total (out es) (length es) ≡ length p + total (put es) (length es)

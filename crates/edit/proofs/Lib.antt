@@ -3,6 +3,9 @@ pub mod Lists
 pub mod Apart
 pub mod Staged
 pub mod Passes
+pub mod Again
+pub mod Turns
+pub mod Whole
 pub mod Once
 pub mod Unique
 pub mod ShutOut

@@ -1,35 +1,18 @@
 -- The two stages as two passes over the edits in their order: what is done, which ranges are next, how large the payload is.
 -- Assumes nothing.
-use mathlib.Core.Path.{_≡_, refl, sym, ap, _∙_}
+use mathlib.Core.Path.{_≡_, refl, sym, _∙_}
 use mathlib.Core.Bool.{Bool, true, false, cond, not, _||_, _&&_}
-use mathlib.Core.List.{List, [], _∷_, _++_}
+use mathlib.Core.List.{List, _∷_}
 use Prim.Native.Nat.{ℕ, zero, suc, _+_, _-_, _≤_, _<_}
 use native.Mathlib.Omega.{arith}
-use lib.Dec.{leb, ltb}
+use lib.Dec.{ltb}
 use lib.ListN.{length}
 use borrow.Author.Tests.{le-ltb, lt-ltb, leb-true, leb-false, eq-eqb, ne-eqb}
-use Rattle.ump.specs.Splice.{spliced}
-use Rattle.ump.specs.Edits.{Patch, patchAt, Apart, replaced, elem, total, moved}
+use Rattle.ump.specs.Edits.{Patch, Apart, replaced, elem, total}
 use Rattle.ump.proofs.First.{Side, under, over, side}
-use Rattle.ump.proofs.Replace.{mixed, mixed-all, step, total-cong}
-use Rattle.edit.proofs.Apart.{put, out}
+use Rattle.ump.proofs.Replace.{mixed, mixed-all, total-cong}
+use Rattle.edit.specs.Passes.{put, out, shrinks, picks, first, second, done, isDue, isPast}
 use Rattle.edit.proofs.Staged.{elem-append, none-grown, all-shrunk}
-
--- a patch that does not grow the payload
-abbrev pub shrinks : List Patch → ℕ → Bool
-shrinks es i = leb (put es i) (out es i)
-
--- of the numbers below n, those that a test takes, the last first
-abbrev pub picks : (ℕ → Bool) → ℕ → List ℕ
-picks test zero = []
-picks test (suc n) = cond (test n) (n ∷ picks test n) (picks test n)
-
--- done where the first pass has come to edit i, and where the second has
-abbrev pub first : List Patch → ℕ → List ℕ
-first es i = picks (shrinks es) i
-
-abbrev pub second : List Patch → ℕ → List ℕ
-second es i = picks (λ j. not (shrinks es j)) i ++ first es (length es)
 
 -- ---- what was picked
 
@@ -54,10 +37,6 @@ elem-picks test (suc n) j = go (side j n) (side n j) (test n) refl (elem-picks t
         let q : j ≡ n = omega arith in
         rw (ih, le-ltb j n k, q, t) (sym (and-none (ltb n (suc n))))
 
--- not picked yet
-pub not-yet : (test : ℕ → Bool) (n : ℕ) → elem n (picks test n) ≡ false
-not-yet test n = elem-picks test n n ∙ rw (le-ltb n n (omega arith))
-
 both : (a b : Bool) → (a && b) ≡ true → (a ≡ true) × (b ≡ true)
 both true b e = (refl, e)
 both false b e = let z : _≡_ {A = ℕ} 0 1 = cc in absurd (omega arith)
@@ -77,60 +56,71 @@ module _ (es : List Patch) where
       go true false = refl
       go false b = refl
 
-  -- the next edit is not done
-  pub first-pending : (i : ℕ) → elem i (first es i) ≡ false
-  first-pending i = not-yet (shrinks es) i
-
-  pub second-pending : (i : ℕ) → i < length es → shrinks es i ≡ false → elem i (second es i) ≡ false
-  second-pending i h e = elem-second i i h ∙ rw (le-ltb i i (omega arith), e)
-
-  -- the second pass begins where the first ends
-  pub second-begins : second es 0 ≡ first es (length es)
-  second-begins = refl
-
-  -- a pass goes on
-  pub first-does : (i : ℕ) → shrinks es i ≡ true → first es (suc i) ≡ i ∷ first es i
+  -- the first pass goes on
+  first-does : (i : ℕ) → shrinks es i ≡ true → first es (suc i) ≡ i ∷ first es i
   first-does i e = rw e
 
-  pub first-leaves : (i : ℕ) → shrinks es i ≡ false → first es (suc i) ≡ first es i
+  first-leaves : (i : ℕ) → shrinks es i ≡ false → first es (suc i) ≡ first es i
   first-leaves i e = rw e
 
-  pub second-does : (i : ℕ) → shrinks es i ≡ false → second es (suc i) ≡ i ∷ second es i
-  second-does i e = rw e
+-- ---- either pass
 
-  pub second-leaves : (i : ℕ) → shrinks es i ≡ true → second es (suc i) ≡ second es i
-  second-leaves i e = rw e
+not-twice : (b : Bool) → not (not b) ≡ b
+not-twice true = refl
+not-twice false = refl
 
-  -- the range of the next edit is moved by those done before it in the first pass, and by all before it in the second
-  pub first-moved : (i x : ℕ)
-      → moved es (first es i) i x ≡ x + total (λ j. cond (shrinks es j) (put es j) 0) i - total (λ j. cond (shrinks es j) (out es j) 0) i
-  first-moved i x =
-      let done : (v : ℕ → ℕ) → total (λ j. cond (elem j (first es i)) (v j) 0) i ≡ total (λ j. cond (shrinks es j) (v j) 0) i =
-      λ v. total-cong _ _ i (λ j h. rw (elem-first i j, lt-ltb j i h))
-      in
-      rw (done (put es), done (out es))
+module _ (es : List Patch) where
+  elem-done : (growing : Bool) (i j : ℕ) → j < length es → elem j (done growing es i) ≡ cond growing (ltb j i || shrinks es j) (ltb j i && shrinks es j)
+  unfolding done
+  elem-done true i j h = elem-second es i j h
+  elem-done false i j h = elem-first es i j
 
-  pub second-moved : (i x : ℕ) → i ≤ length es → moved es (second es i) i x ≡ x + total (put es) i - total (out es) i
-  second-moved i x k =
-      let done : (v : ℕ → ℕ) → total (λ j. cond (elem j (second es i)) (v j) 0) i ≡ total v i =
-      λ v. total-cong _ _ i (λ j h. rw (elem-second i j (omega arith), lt-ltb j i h))
-      in
-      rw (done (put es), done (out es))
+  module _ (i : ℕ) (h : i < length es) where
+    -- an edit that is due is not done, and is done next; another is left
+    pub due-pending : (growing : Bool) → isDue (not (shrinks es i)) growing ≡ true → elem i (done growing es i) ≡ false
+    due-pending growing e = elem-done growing i i h ∙ rw (le-ltb i i (omega arith)) (go growing (shrinks es i) e)
+      where
+        go : (growing b : Bool) → isDue (not b) growing ≡ true → cond growing b false ≡ false
+        go false b e = refl
+        go true false e = refl
+        go true true e = let z : _≡_ {A = ℕ} 0 1 = cc in absurd (omega arith)
+
+    pub due-does : (growing : Bool) → isDue (not (shrinks es i)) growing ≡ true → done growing es (suc i) ≡ i ∷ done growing es i
+    unfolding done
+    due-does true e = rw e
+    due-does false e = first-does es i (sym (not-twice (shrinks es i)) ∙ e)
+
+    pub due-leaves : (growing : Bool) → isDue (not (shrinks es i)) growing ≡ false → done growing es (suc i) ≡ done growing es i
+    unfolding done
+    due-leaves true e = rw e
+    due-leaves false e = first-leaves es i (sym (not-twice (shrinks es i)) ∙ e)
+
+    -- sums over those that are done go on by that edit, where it is done
+    pub sum-next : (growing : Bool) (v : ℕ → ℕ) → total (λ j. cond (elem j (done growing es (suc i))) (v j) 0) (suc i)
+        ≡ total (λ j. cond (elem j (done growing es i)) (v j) 0) i + cond (isPast (not (shrinks es i)) growing) (v i) 0
+    unfolding total
+    sum-next growing v =
+        rw (
+          total-cong (λ j. cond (elem j (done growing es (suc i))) (v j) 0) (λ j. cond (elem j (done growing es i)) (v j) 0) i (λ j k. rw (below j k)),
+          here,
+        )
+      where
+        behind : (n j : ℕ) → j < n → j < length es → elem j (done growing es n) ≡ cond growing true (shrinks es j)
+        behind n j k l = elem-done growing n j l ∙ rw (lt-ltb j n k)
+
+        below : (j : ℕ) → j < i → elem j (done growing es (suc i)) ≡ elem j (done growing es i)
+        below j k = behind (suc i) j (omega arith) (omega arith) ∙ sym (behind i j k (omega arith))
+
+        same : (growing b : Bool) → cond growing true b ≡ isPast (not b) growing
+        same true b = refl
+        same false b = sym (not-twice b)
+
+        here : elem i (done growing es (suc i)) ≡ isPast (not (shrinks es i)) growing
+        here = behind (suc i) i (omega arith) h ∙ same growing (shrinks es i)
 
 -- ---- the payload
 
 module _ (p : List ℕ) (es : List Patch) (a : Apart es (length p)) where
-  -- one splice of either pass
-  pub first-splice : (i : ℕ) → i < length es → shrinks es i ≡ true
-      → spliced (mixed p es (first es i)) (moved es (first es i) i (patchAt es i .from)) (moved es (first es i) i (patchAt es i .to))
-      (patchAt es i .bytes) ≡ mixed p es (first es (suc i))
-  first-splice i h e = step p es a (first es i) i h (first-pending es i) ∙ ap (mixed p es) (sym (first-does es i e))
-
-  pub second-splice : (i : ℕ) → i < length es → shrinks es i ≡ false
-      → spliced (mixed p es (second es i)) (moved es (second es i) i (patchAt es i .from)) (moved es (second es i) i (patchAt es i .to))
-      (patchAt es i .bytes) ≡ mixed p es (second es (suc i))
-  second-splice i h e = step p es a (second es i) i h (second-pending es i h e) ∙ ap (mixed p es) (sym (second-does es i e))
-
   -- in the first pass it is never larger than it was, in the second never larger than it is to be
   pub first-room : (i : ℕ) → length (mixed p es (first es i)) ≤ length p
   first-room i =

@@ -1,15 +1,31 @@
 -- Wrong answers that the promises shut out, each on a concrete input. Assumes nothing.
-use mathlib.Core.Path.{_≡_}
+use mathlib.Core.Path.{_≡_, ap}
 use mathlib.Core.Bool.{true, false, not}
+use mathlib.Core.List.{List, [], _∷_, _++_}
 use Prim.Native.Nat.{ℕ, _+_, _*_}
 use lib.Dec.{T, eqb}
 use lib.IntN.{ℤ, pos, negsuc}
+use lib.ListN.{getD, replicate}
+use contract.Lifetimes.{Lfts}
+use denote.Triple.Clauses.{AtExit}
+use borrow.Fn.Kinds.{Dens, resT, endedOf}
 use Rattle.refusal.specs.Answer.{Answer}
+use Rattle.refusal.proofs.Laws.{never-both, never-refused}
+use Rattle.refusal.proofs.Tight as tight
 use Rattle.refusal.proofs.Tight.{Shuts, differ, told}
 use Rattle.refusal.specs.declared.Fault.{Fault}
 use Rattle.refusal.specs.declared.Refusal.{Refusal}
 use Rattle.refusal.specs.declared.Refusal.the-variants as refusal
+use Rattle.ump.specs.Word.{octets, wordsOf}
+use Rattle.ump.specs.Packet.{sizeOf, payloadAt, joined, payload}
+use Rattle.ump.specs.Packing.{statusFor, frame, packsAt, packs, packetsFor, pack}
+use Rattle.ump.specs.Check.{first, badType, badStatus, badCount, badGroup, badId, statusNumber, checkPackets, check}
+use Rattle.ump.specs.Splice.{Spliced, stored, rewritten}
 use Rattle.ump.specs.Edits as ump
+use Rattle.ump.specs.Samples.{message5}
+use Rattle.splice.specs.declared.sysex8.Spliced as answer
+use Rattle.splice.specs.declared.sysex8.Change.{Change}
+use Rattle.splice.proofs.ShutOut.{Refuses}
 use Rattle.edit.specs.Growth.{growthOf}
 use Rattle.edit.specs.declared.Edit.{Edit}
 use Rattle.edit.specs.declared.Range.{Range}
@@ -17,6 +33,8 @@ use Rattle.edit.specs.declared.Grown.the-variants as grown
 use Rattle.edit.specs.declared.Moved.the-variants as moved
 use Rattle.edit.proofs.growth.Reads as growth
 use Rattle.edit.proofs.move_edit.Reads as move
+use Rattle.edit.proofs.all.splice_all.Kinds as all-kinds
+use Rattle.edit.proofs.all.splice_all.Reads as all
 
 abbrev signed : ℤ → ℕ
 signed (pos n) = 2 * n
@@ -90,3 +108,92 @@ shut-out = record {
   move-pending = λ κs s p. wrong ends tt p;
   move-far = λ κs s p. wrong ends tt p;
 }
+
+-- ---- all edits at once
+
+-- a call on these words, of this message length, with these edits and replacement bytes
+abbrev Called : List ℕ → ℕ → List ℕ → List ℕ → (κs : Lfts 3) → Dens κs all-kinds.ps → Type 0
+Called words len numbers bytes κs a = (a .0 .now ≡ words) × (a .1 .0 ≡ len) × (a .1 .1 .0 .now ≡ numbers) × (a .1 .1 .1 .0 .now ≡ bytes)
+
+-- a call answers so
+abbrev Wrong : Type 1
+Wrong = (κs : Lfts 3) → resT all-kinds.r κs .Denot → AtExit (endedOf 3 all-kinds.ps all-kinds.r) κs → Type 0
+
+abbrev AllShut : List ℕ → ℕ → List ℕ → List ℕ → Wrong → Type 0
+AllShut words len numbers bytes wrong =
+    tight.ShutOut 3 all-kinds.ps all-kinds.r all.Post (λ κs a x s. Called words len numbers bytes κs a × wrong κs x s)
+
+record Accepts (x : answer.Spliced) : Type 0 where
+  change : Change
+  is : x ≡ answer.the-variants.Done change
+
+abbrev refuses : Wrong
+refuses κs x s = Refuses x
+
+abbrev accepts : Wrong
+accepts κs x s = Accepts x
+
+abbrev leaves : List ℕ → Wrong
+leaves words κs x s = s .0 .now ≡ words
+
+abbrev answers : ℕ → ℤ → Wrong
+answers length growth κs x s = x ≡ answer.the-variants.Done (record { length = length; growth = growth })
+
+abbrev word : ℕ → Answer Spliced × List ℕ → ℕ
+word k o = getD (o .1) k 0
+
+abbrev tells : Answer Spliced × List ℕ → ℕ
+tells o = told (λ c. 1000 * c .length + signed (c .growth)) (o .0)
+
+-- P8's edits of P5's message, by bytes B0 B1
+abbrev numbers8 : List ℕ
+numbers8 = 0 ∷ 1 ∷ 2 ∷ 2 ∷ 3 ∷ 0 ∷ []
+
+abbrev bytes8 : List ℕ
+bytes8 = 0xB0 ∷ 0xB1 ∷ []
+
+abbrev short : List ℕ → List ℕ
+short words = words ++ replicate 10 0
+
+-- thirteen bytes, in four words
+abbrev thirteen : List ℕ
+thirteen = 0x500E0001 ∷ 0x02030405 ∷ 0x06070809 ∷ 0x0A0B0C0D ∷ []
+
+-- the first edit alone is done
+all-first : AllShut message5 12 numbers8 bytes8 (leaves (short (0x510505B0 ∷ 0xB1A1A200 ∷ [])))
+unfolding ump.spliceAll ump.editsFrom ump.replaced rewritten stored check checkPackets badType badStatus badCount badGroup badId statusNumber first payload payloadAt sizeOf octets pack packs packsAt packetsFor statusFor frame joined wordsOf
+all-first κs a x s w p = differ (word 0) tt (rw (w .0 .0, w .0 .1, w .0 .2, w .0 .3, w .1) at p)
+
+-- a range is moved by the growth of all edits, or not at all: the byte before the second range is taken out
+all-moved : AllShut message5 12 numbers8 bytes8 (leaves (short (0x510405B0 ∷ 0xB1A20000 ∷ [])))
+unfolding ump.spliceAll ump.editsFrom ump.replaced rewritten stored check checkPackets badType badStatus badCount badGroup badId statusNumber first payload payloadAt sizeOf octets pack packs packsAt packetsFor statusFor frame joined wordsOf
+all-moved κs a x s w p = differ (word 1) tt (rw (w .0 .0, w .0 .1, w .0 .2, w .0 .3, w .1) at p)
+
+-- the growth is that of the edit done last
+all-growth : AllShut message5 12 numbers8 bytes8 (answers 4 (pos 1))
+unfolding ump.spliceAll ump.editsFrom ump.replaced rewritten stored check checkPackets badType badStatus badCount badGroup badId statusNumber first payload payloadAt sizeOf octets pack packs packsAt packetsFor statusFor frame joined wordsOf
+all-growth κs a x s w p = differ tells tt (rw (w .0 .0, w .0 .1, w .0 .2, w .0 .3, w .1) at p)
+
+-- edits that overlap are taken, and ones that touch are refused
+all-overlap : AllShut message5 12 (0 ∷ 2 ∷ 2 ∷ 1 ∷ 3 ∷ 0 ∷ []) bytes8 accepts
+unfolding ump.spliceAll ump.editsFrom ump.replaced rewritten stored check checkPackets badType badStatus badCount badGroup badId statusNumber first payload payloadAt sizeOf octets pack packs packsAt packetsFor statusFor frame joined wordsOf
+all-overlap κs a x s w p = never-both (ap (λ (o : Answer Spliced × List ℕ). o .0) (rw (w .0 .0, w .0 .1, w .0 .2, w .0 .3, w .1 .is) at p))
+
+all-touching : AllShut message5 12 (0 ∷ 1 ∷ 2 ∷ 1 ∷ 3 ∷ 0 ∷ []) bytes8 refuses
+unfolding ump.spliceAll ump.editsFrom ump.replaced rewritten stored check checkPackets badType badStatus badCount badGroup badId statusNumber first payload payloadAt sizeOf octets pack packs packsAt packetsFor statusFor frame joined wordsOf
+all-touching κs a x s w p = never-refused (ap (λ (o : Answer Spliced × List ℕ). o .0) (rw (w .0 .0, w .0 .1, w .0 .2, w .0 .3, w .1 .is) at p))
+
+-- replacement bytes that no edit has are taken
+all-bytes : AllShut message5 12 numbers8 (0xB0 ∷ 0xB1 ∷ 0xB2 ∷ []) accepts
+unfolding ump.spliceAll ump.editsFrom ump.replaced rewritten stored check checkPackets badType badStatus badCount badGroup badId statusNumber first payload payloadAt sizeOf octets pack packs packsAt packetsFor statusFor frame joined wordsOf
+all-bytes κs a x s w p = never-both (ap (λ (o : Answer Spliced × List ℕ). o .0) (rw (w .0 .0, w .0 .1, w .0 .2, w .0 .3, w .1 .is) at p))
+
+-- room is judged in the middle: thirteen bytes, five put in and then five taken out, in four words, are refused
+all-middle : AllShut thirteen 4 (0 ∷ 0 ∷ 5 ∷ 8 ∷ 13 ∷ 0 ∷ []) (21 ∷ 22 ∷ 23 ∷ 24 ∷ 25 ∷ []) refuses
+unfolding ump.spliceAll ump.editsFrom ump.replaced rewritten stored check checkPackets badType badStatus badCount badGroup badId statusNumber first payload payloadAt sizeOf octets pack packs packsAt packetsFor statusFor frame joined wordsOf
+all-middle κs a x s w p = never-refused (ap (λ (o : Answer Spliced × List ℕ). o .0) (rw (w .0 .0, w .0 .1, w .0 .2, w .0 .3, w .1 .is) at p))
+
+-- room is judged late: the last byte is taken out before two are refused
+all-late : AllShut thirteen 4 (0 ∷ 0 ∷ 2 ∷ 12 ∷ 13 ∷ 0 ∷ []) bytes8 (leaves (0x500D0001 ∷ 0x02030405 ∷ 0x06070809 ∷ 0x0A0B0C00 ∷ []))
+unfolding ump.spliceAll ump.editsFrom ump.replaced rewritten stored check checkPackets badType badStatus badCount badGroup badId statusNumber first payload payloadAt sizeOf octets pack packs packsAt packetsFor statusFor frame joined wordsOf
+all-late κs a x s w p = differ (word 0) tt (rw (w .0 .0, w .0 .1, w .0 .2, w .0 .3, w .1) at p)

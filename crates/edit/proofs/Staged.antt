@@ -9,7 +9,8 @@ use lib.Dec.{eqb}
 use lib.ListN.{length}
 use Rattle.ump.specs.Edits.{Patch, Apart, replaced, elem, total, Order}
 use Rattle.ump.proofs.Replace.{mixed, size-mixed, total-mono, after, elem-after, order-all}
-use Rattle.edit.proofs.Apart.{put, out, size-replaced}
+use Rattle.edit.specs.Passes.{put, out}
+use Rattle.edit.proofs.Apart.{size-replaced}
 
 -- ---- which are done
 

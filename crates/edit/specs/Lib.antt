@@ -2,3 +2,4 @@
 pub mod Meaning
 pub mod Growth
 pub mod Listed
+pub mod Passes

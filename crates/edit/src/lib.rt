@@ -7,7 +7,10 @@ ghost use Rattle.edit.specs.Growth.{growthOf, Sound};
 use refusal::Fault;
 use refusal::Refusal;
 
+mod all;
 mod listed;
+
+pub use all::splice_all;
 
 // An edit is from, to and replacement length.
 pub struct Edit {

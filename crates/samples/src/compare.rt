@@ -8,12 +8,27 @@ use refusal::ByteRead;
 use refusal::Fault;
 
 // A refusal with this number and place.
-fn is_fault(fault: Fault, number: u8, place: usize) -> bool {
+pub(crate) fn is_fault(fault: Fault, number: u8, place: usize) -> bool {
     let refusal = fault.refusal;
     if refusal::number(refusal) != number {
         return false;
     }
     fault.place == place
+}
+
+// The words are the ones expected.
+pub(crate) fn same_words(words: &[u32], expected: &[u32]) -> bool {
+    if words.len() != expected.len() {
+        return false;
+    }
+    let mut at = 0;
+    while at < words.len() {
+        if words[at] != expected[at] {
+            return false;
+        }
+        at += 1;
+    }
+    true
 }
 
 // The first `size` of these bytes are the ones expected.

@@ -1,16 +1,13 @@
 // The samples of document 01, run through the public calls: a line for each, `ok` or `WRONG`.
-//
-// Still to come, each with its call:
-// - packing: P3, P4, P5, and the words for 0, 13, 14, 26, 27, 53,248 and 53,249 bytes
-// - splice: P6, P7
-// - edits: P8, P9
-// - byte stream: P12, F0 F7, one byte F0, F0 90 F7
 use libc::STDOUT_FILENO;
 
 mod compare;
+mod edits;
 mod listings;
 mod messages;
 mod packets;
+mod packings;
+mod streams;
 
 // Writes the line of a sample.
 fn report(name: &[u8], right: bool) {
@@ -25,9 +22,25 @@ fn report(name: &[u8], right: bool) {
 fn main() {
     report(b"P1", messages::p1());
     report(b"P2", messages::p2());
+    report(b"P3", packings::p3());
+    report(b"P4", packings::p4());
+    report(b"P5", packings::p5());
+    report(b"P6", packings::p6());
+    report(b"P7", packings::p7());
+    report(b"P8", edits::p8());
+    report(b"P9", edits::p9());
     report(b"P10", packets::p10());
     report(b"P11", packets::p11());
+    report(b"P12", streams::p12());
+    report(
+        b"words for 0, 13, 14, 26, 27 bytes",
+        packings::words_needed(),
+    );
+    report(b"53,248 and 53,249 bytes", packings::most_bytes());
     report(b"P4, first five words", messages::five_words());
+    report(b"F0 F7", streams::no_data());
+    report(b"one byte F0", streams::one_byte());
+    report(b"F0 90 F7", streams::high_byte());
     report(b"sx8list, P5", listings::p5());
     report(b"sx8list, P4, first five words", listings::five_words());
     report(b"sx8list, a packet of another type", listings::foreign());

@@ -1,14 +1,14 @@
 -- Parts of a word and fields by index: when a call on a field refuses, and what is read after a field was set.
 -- Assumes nothing.
-use mathlib.Core.Path.{_≡_, refl, sym, ap, _∙_, subst}
+use mathlib.Core.Path.{_≡_, refl, sym, ap, _∙_}
 use mathlib.Core.Bool.{Bool, true, false}
 use mathlib.Core.Logic.{_⊎_, inl, inr}
 use Prim.Native.Nat.{ℕ, suc, _+_, _-_, _*_, _/_, _%_, _^_, _≤_, _<_}
-use native.Mathlib.Nat.{mod-lt, div-lt-iff-lt-mul, mul-le-mul-right, suc-mul}
+use native.Mathlib.Nat.{mod-lt, mul-le-mul-right, suc-mul}
 use native.Mathlib.Decide.{decLt}
 use native.Mathlib.Omega.{arith}
 use lib.Dec.{leb}
-use lib.Pow.{pow-pos, pow-add, high, low, shr-shr, field, mod-mod-pow, shr-lt}
+use lib.Pow.{pow-pos, high, low, shr-shr, field, mod-mod-pow}
 use borrow.Author.Tests.{leb-false, le-leb, lt-leb}
 use Rattle.refusal.specs.Answer.{gives, refused, _▷_, guard}
 use Rattle.refusal.proofs.Laws.{never-refused}
@@ -56,17 +56,6 @@ module _ (x begin width value : ℕ) (fits : value < 2 ^ width) where
       cut y =
           let e : at ≡ (begin + width) + (at - (begin + width)) = omega arith in
           ap (λ (n : ℕ). n % 2 ^ size) (ap (λ (n : ℕ). y / 2 ^ n) e ∙ sym (shr-shr y (begin + width) (at - (begin + width))))
-
-  -- a number of so many bits is one still
-  pub withPart-lt : (bits : ℕ) → begin + width ≤ bits → x < 2 ^ bits → withPart x begin width value < 2 ^ bits
-  withPart-lt bits le small =
-      let rest = bits - (begin + width) in
-      let e : bits ≡ rest + (begin + width) = omega arith in
-      let few : x / 2 ^ (begin + width) < 2 ^ rest = shr-lt rest (begin + width) (subst (λ (n : ℕ). x < 2 ^ n) e small) in
-      subst
-      (λ (n : ℕ). withPart x begin width value < n)
-      (sym (ap (λ (n : ℕ). 2 ^ n) e ∙ pow-add 2 rest (begin + width)))
-      (div-lt-iff-lt-mul (pow-pos (begin + width)) .0 (subst (λ (n : ℕ). n < 2 ^ rest) (sym past) few))
 
 -- ---- the cases of the calls on a field
 

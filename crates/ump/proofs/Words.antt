@@ -4,13 +4,9 @@ use mathlib.Core.List.{List, [], _∷_, _++_, map}
 use Prim.Native.Nat.{ℕ, zero, suc, _+_, _-_, _*_, _/_, _%_, _^_, _≤_, _<_}
 use native.Mathlib.Nat.{mod-lt, mod-eq-of-lt}
 use native.Mathlib.Omega.{arith}
-use lib.ListN.{length, getD, take, drop, set, replicate}
+use lib.ListN.{length, getD, take, drop, replicate}
 use lib.Pow.{recompose, mod-pow-add}
-use Rattle.ump.specs.Word.{octetField, shift, withPart, nibble, octet, word, octets, wordsOf, Below}
-
--- a word with octet i replaced
-abbrev pub setOctet : ℕ → ℕ → ℕ → ℕ
-setOctet x i b = withPart x (shift octetField i) 8 b
+use Rattle.ump.specs.Word.{octetField, shift, nibble, octet, word, octets, wordsOf, Below}
 
 module _ (a b c d : ℕ) (ha : a < 256) (hb : b < 256) (hc : c < 256) (hd : d < 256) where
   pub octet0 : octet (word a b c d) 0 ≡ a
@@ -36,9 +32,6 @@ module _ (a b c d : ℕ) (ha : a < 256) (hb : b < 256) (hc : c < 256) (hd : d < 
 
   pub nibble3 : nibble (word a b c d) 3 ≡ b % 16
   nibble3 = omega arith
-
-  pub word-fits : word a b c d < 2 ^ 32
-  word-fits = omega arith
 
 -- ---- lists of octets
 
@@ -139,47 +132,8 @@ getD-wordsOf (a ∷ b ∷ c ∷ d ∷ os) (suc j) h =
     let e3 : 4 * suc j + 3 ≡ suc (suc (suc (suc (4 * j + 3)))) = omega arith in
     rw (e1, e2, e3, e0) (getD-wordsOf os j (omega arith))
 
--- a store of one octet
-module _ (a b c d x : ℕ) (ha : a < 256) (hb : b < 256) (hc : c < 256) (hd : d < 256) (hx : x < 256) where
-  set-word0 : setOctet (word a b c d) 0 x ≡ word x b c d
-  set-word0 = omega arith
-
-  set-word1 : setOctet (word a b c d) 1 x ≡ word a x c d
-  set-word1 = omega arith
-
-  set-word2 : setOctet (word a b c d) 2 x ≡ word a b x d
-  set-word2 = omega arith
-
-  set-word3 : setOctet (word a b c d) 3 x ≡ word a b c x
-  set-word3 = omega arith
-
-octets-word : (a b c d : ℕ) (ws : List ℕ) → a < 256 → b < 256 → c < 256 → d < 256 → octets (word a b c d ∷ ws) ≡ a ∷ b ∷ c ∷ d ∷ octets ws
-unfolding octets
-octets-word a b c d ws ha hb hc hd =
-    rw (octet0 a b c d ha hb hc hd, octet1 a b c d ha hb hc hd, octet2 a b c d ha hb hc hd, octet3 a b c d ha hb hc hd)
-
-octets-set-word : (a b c d x : ℕ) (ws : List ℕ) (q : ℕ) → a < 256 → b < 256 → c < 256 → d < 256 → x < 256 → q < 4
-    → octets (setOctet (word a b c d) q x ∷ ws) ≡ set (a ∷ b ∷ c ∷ d ∷ octets ws) q x
-octets-set-word a b c d x ws zero ha hb hc hd hx h = rw (set-word0 a b c d x ha hb hc hd hx) (octets-word x b c d ws hx hb hc hd)
-octets-set-word a b c d x ws (suc zero) ha hb hc hd hx h = rw (set-word1 a b c d x ha hb hc hd hx) (octets-word a x c d ws ha hx hc hd)
-octets-set-word a b c d x ws (suc (suc zero)) ha hb hc hd hx h = rw (set-word2 a b c d x ha hb hc hd hx) (octets-word a b x d ws ha hb hx hd)
-octets-set-word a b c d x ws (suc (suc (suc zero))) ha hb hc hd hx h = rw (set-word3 a b c d x ha hb hc hd hx) (octets-word a b c x ws ha hb hc hx)
-octets-set-word a b c d x ws (suc (suc (suc (suc q)))) ha hb hc hd hx h = absurd (omega arith)
-
 pub octet-fits : (w i : ℕ) → octet w i < 256
 octet-fits w i = mod-lt (w / 2 ^ shift octetField i) (omega arith)
-
-pub octets-set : (ws : List ℕ) (j q x : ℕ) → Below (2 ^ 32) ws → q < 4 → x < 256
-    → octets (set ws j (setOctet (getD ws j 0) q x)) ≡ set (octets ws) (4 * j + q) x
-unfolding octets
-octets-set [] j q x b h k = refl
-octets-set (w ∷ ws) zero q x b h k =
-    let e : 4 * 0 + q ≡ q = omega arith in
-    let t = octets-set-word (octet w 0) (octet w 1) (octet w 2) (octet w 3) x ws q (octet-fits w 0) (octet-fits w 1) (octet-fits w 2) (octet-fits w 3) k h in
-    rw e (rw (word-octets w (b .0)) at t)
-octets-set (w ∷ ws) (suc j) q x b h k =
-    let e : 4 * suc j + q ≡ suc (suc (suc (suc (4 * j + q)))) = omega arith in
-    rw (e, octets-set ws j q x (b .1) h k)
 
 -- ---- bounds
 

@@ -1,4 +1,4 @@
-// Edits of a payload: growth, moving a pending edit past a done one, and the checks of a list of edits.
+// Edits of a payload: growth, moving a pending edit past a done one, and all edits of a list at once.
 ghost use mathlib.Core.Path.{_≡_};
 ghost use Prim.Native.Nat.{_≤_};
 ghost use Rattle.ump.specs.Edits.{growth, badEdit, movedPast, moveEdit};

@@ -35,6 +35,7 @@ use Rattle.edit.specs.declared.Edit.{Edit}
 use Rattle.edit.specs.declared.Range.{Range}
 use Rattle.edit.specs.declared.Moved.{Moved}
 use Rattle.edit.specs.declared.Moved.the-variants as moving
+use Rattle.edit.proofs.Staged.{or-true}
 use Rattle.edit.proofs.Worker.{Splices, Moves, Held, End, finished, stopped, editOver, Works, rests, goes-on, splice-refused, move-refused, start, Fits, Each, Fewest}
 
 -- ---- each promise as an equation over plain values
@@ -59,10 +60,6 @@ order-below m k (i ∷ order) o e = go (eqb k i) refl e (order-below m k order (
 
 not-same : (i k : ℕ) (order : List ℕ) → elem i order ≡ false → elem k order ≡ true → i ≢ k
 not-same i k order u e q = let t : elem i order ≡ true = rw q e in let z : _≡_ {A = ℕ} 0 1 = cc in omega arith
-
-or-true : (a b : Bool) → b ≡ true → (a || b) ≡ true
-or-true true b e = refl
-or-true false b e = e
 
 -- the length that an answer of a splice gives
 abbrev given : Answer ump.Spliced → ℕ

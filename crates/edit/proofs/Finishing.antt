@@ -3,8 +3,7 @@
 use mathlib.Core.Path.{_≡_, refl, sym, ap}
 use mathlib.Core.Bool.{Bool}
 use mathlib.Core.List.{List, [], _∷_}
-use Prim.Native.Nat.{ℕ, zero, suc, _+_, _≤_, _<_}
-use native.Mathlib.Omega.{arith}
+use Prim.Native.Nat.{ℕ, _+_, _≤_, _<_}
 use lib.Dec.{ltb, lit<, lit≤}
 use lib.ListN.{length}
 use denote.Ref.{RefT}
@@ -17,7 +16,7 @@ use Rattle.ump.specs.Splice as ump
 use Rattle.ump.specs.Edits as edits
 use Rattle.ump.specs.Edits.{Patch, patchAt, Apart, allBytes, moved, moveEdit, total, Order}
 use Rattle.ump.specs.Samples.{message5, patches8}
-use Rattle.ump.proofs.NotEmpty.{apart8}
+use Rattle.ump.proofs.NotEmpty.{both, apart8}
 use Rattle.splice.specs.declared.sysex8.Change.{Change}
 use Rattle.splice.specs.declared.sysex8.Spliced.the-variants as spliced
 use Rattle.edit.specs.Meaning.{editMeaning, rangeMeaning}
@@ -93,12 +92,6 @@ finishes {words} {len} {patches} fits order o =
     order [] (start words len patches) (begins fits order o)
 
 -- ---- P8
-
--- a fact about each of two
-both : (P : ℕ → Type 0) → P 0 → P 1 → (i : ℕ) → i < 2 → P i
-both P a b zero h = a
-both P a b (suc zero) h = b
-both P a b (suc (suc i)) h = absurd (omega arith)
 
 pub fits8 : Fits message5 12 patches8
 unfolding check checkPackets badType badStatus badCount badGroup badId first statusFor payload payloadAt sizeOf octets joined packetsFor total

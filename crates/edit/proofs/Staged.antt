@@ -3,21 +3,17 @@
 use mathlib.Core.Path.{_≡_, refl, sym, ap, _∙_}
 use mathlib.Core.Bool.{Bool, true, false, cond, _||_}
 use mathlib.Core.List.{List, [], _∷_, _++_}
-use Prim.Native.Nat.{ℕ, zero, suc, _+_, _≤_, _<_, max}
+use Prim.Native.Nat.{ℕ, _+_, _≤_, _<_, max}
 use native.Mathlib.Omega.{arith}
 use lib.Dec.{eqb}
 use lib.ListN.{length}
-use Rattle.ump.specs.Edits.{Patch, Apart, replaced, elem, total, Order}
+use Rattle.ump.specs.Edits.{Patch, Apart, replaced, elem, Order}
 use Rattle.ump.proofs.Replace.{mixed, size-mixed, total-mono, after, elem-after, order-all}
+use Rattle.ump.proofs.Counting.{total-add}
 use Rattle.edit.specs.Passes.{put, out}
 use Rattle.edit.proofs.Apart.{size-replaced}
 
 -- ---- which are done
-
-total-add : (f g : ℕ → ℕ) (n : ℕ) → total (λ j. f j + g j) n ≡ total f n + total g n
-unfolding total
-total-add f g zero = refl
-total-add f g (suc n) = omega (arith, total-add f g n)
 
 either : (b : Bool) (x y : ℕ) → (b ≡ true → x ≤ y) → cond b x 0 ≤ cond b y 0
 either true x y h = h refl
@@ -69,7 +65,7 @@ pub elem-append : (i : ℕ) (xs ys : List ℕ) → elem i (xs ++ ys) ≡ elem i 
 elem-append i [] ys = refl
 elem-append i (x ∷ xs) ys = rw (elem-append i xs ys) (or-assoc (eqb i x) (elem i xs) (elem i ys))
 
-or-true : (a b : Bool) → b ≡ true → (a || b) ≡ true
+pub or-true : (a b : Bool) → b ≡ true → (a || b) ≡ true
 or-true true b e = refl
 or-true false b e = e
 

@@ -21,7 +21,7 @@ unfolding total
 total-split f m zero = rw (add-zero m) (omega arith)
 total-split f m (suc k) = rw (add-suc, total-split f m k) (omega arith)
 
-total-add : (f g : ℕ → ℕ) (n : ℕ) → total (λ j. f j + g j) n ≡ total f n + total g n
+pub total-add : (f g : ℕ → ℕ) (n : ℕ) → total (λ j. f j + g j) n ≡ total f n + total g n
 unfolding total
 total-add f g zero = refl
 total-add f g (suc n) = omega (arith, total-add f g n)

@@ -2,12 +2,12 @@
 use mathlib.Core.Path.{_≡_, refl, sym, ap, _∙_}
 use mathlib.Core.Bool.{Bool, true, false, cond, _||_}
 use mathlib.Core.List.{List, [], _∷_, _++_, append-nil, map}
-use Prim.Native.Nat.{ℕ, zero, suc, _+_, _-_, _*_, _/_, _%_, _≤_, _<_, min}
+use Prim.Native.Nat.{ℕ, _+_, _-_, _*_, _/_, _%_, _≤_, _<_}
 use native.Mathlib.Nat.{div-add-mod, mod-lt, div-lt-iff-lt-mul, mul-comm, mul-assoc}
 use native.Mathlib.Omega.{arith}
 use lib.Dec.{ltb}
 use lib.IntN.{pos, _-ℤ_}
-use lib.ListN.{length, getD, take, drop, replicate, length-take, length-drop, List·getD-append, List·getD-eq-default}
+use lib.ListN.{length, getD, take, drop, replicate, length-take, List·getD-append, List·getD-eq-default}
 use lib.Seq.{getD-take, getD-drop, getD-append-add, take-at}
 use borrow.Author.Tests.{ltb-false}
 use Rattle.refusal.specs.Answer.{Answer, gives, refused, Verdict, pass, _▷_, guard, writes}
@@ -23,6 +23,7 @@ use Rattle.ump.proofs.First.{Side, under, over, side}
 use Rattle.ump.proofs.Words.{getD-octets}
 use Rattle.ump.proofs.Sizes.{words-pos, status-small}
 use Rattle.ump.proofs.Packing.{octets-frame, length-chunk, below-chunk, packet-packs}
+use Rattle.ump.proofs.Positions.{octetAt, frame-split, getD-frame}
 use Rattle.ump.proofs.Checks.{pass-both, or-left, or-right, passes-valid}
 use Rattle.ump.proofs.Splicing.{group-fits, length-id, below-id, below-payload, below-spliced, length-spliced, rewritten-fewest}
 
@@ -68,16 +69,6 @@ module _ (old : List ℕ) (from to : ℕ) (bytes : List ℕ) (ft : from ≤ to) 
 
 -- ---- an octet of the fewest-packet form
 
-getD-zeros : (k i : ℕ) → _≡_ {A = ℕ} (getD (replicate k 0) i 0) 0
-getD-zeros zero i = refl
-getD-zeros (suc k) zero = refl
-getD-zeros (suc k) (suc i) = getD-zeros k i
-
-getD-padded : (xs : List ℕ) (k i : ℕ) → getD (xs ++ replicate k 0) i 0 ≡ getD xs i 0
-getD-padded [] k i = getD-zeros k i
-getD-padded (x ∷ xs) k zero = refl
-getD-padded (x ∷ xs) k (suc i) = getD-padded xs k i
-
 -- octet j of packet p among all octets
 octet-of-packet : (s : Shape) (m : List ℕ) (p j : ℕ) → j < 4 * s .words → getD (octets (packet s m p)) j 0 ≡ getD (octets m) (4 * s .words * p + j) 0
 octet-of-packet s m p j h =
@@ -99,32 +90,9 @@ module _ (s : Shape) (g : ℕ) (id bs : List ℕ) (hg : g < 16) (ht : length id 
   abbrev framed : ℕ → List ℕ
   framed p = frame s (statusFor packets p) g id (chunk s bs p)
 
-  size-chunk : (p : ℕ) → length (chunk s bs p) ≡ min (s .room) (length bs - s .room * p)
-  size-chunk p = simp (length-take, length-drop)
-
-  frame-parts : (p : ℕ) → framed p ≡ headerOctets s g id (length bs) p ++ (chunk s bs p ++ replicate (s .room - length (chunk s bs p)) 0)
-  unfolding frame
-  frame-parts p = rw (size-chunk p)
-
   -- the header octets are those that begin the frame of a packet
   pub header-is : (p : ℕ) → take (header s) (framed p) ≡ headerOctets s g id (length bs) p
-  header-is p = rw (frame-parts p) (take-at (headerOctets s g id (length bs) p) _ (header s) (omega arith))
-
-  in-header : (p j : ℕ) → j < header s → getD (framed p) j 0 ≡ getD (headerOctets s g id (length bs) p) j 0
-  in-header p j h = rw (frame-parts p) (List·getD-append (headerOctets s g id (length bs) p) _ 0 j (omega arith))
-
-  in-body : (p j : ℕ) → header s ≤ j → j < 4 * s .words → getD (framed p) j 0 ≡ getD bs (s .room * p + (j - header s)) 0
-  in-body p j h l =
-      let head : List ℕ = headerOctets s g id (length bs) p in
-      let body : List ℕ = chunk s bs p ++ replicate (s .room - length (chunk s bs p)) 0 in
-      let i : ℕ = j - header s in
-      let e : j ≡ length (headerOctets s g id (length bs) p) + i = omega arith in
-      ap (λ (x : List ℕ). getD x j 0) (frame-parts p)
-      ∙ ap (λ (k : ℕ). getD (head ++ body) k 0) e
-      ∙ getD-append-add head body i 0
-      ∙ getD-padded (chunk s bs p) (s .room - length (chunk s bs p)) i
-      ∙ getD-take (s .room) (drop (s .room * p) bs) i 0 (omega (arith, s .full))
-      ∙ getD-drop (s .room * p) bs i 0
+  header-is p = rw (frame-split s g id bs ht p) (take-at (headerOctets s g id (length bs) p) _ (header s) (omega arith))
 
   octet-of-pack : (p j : ℕ) → p < packets → j < 4 * s .words → getD (octets (pack s g id bs)) (4 * s .words * p + j) 0 ≡ getD (framed p) j 0
   unfolding pack packsAt
@@ -260,7 +228,7 @@ module _ (s : Shape) (words : List ℕ) (len from to : ℕ) (bytes : List ℕ) (
   -- Each octet of the message after a splice that is done is what `originOf` says of its position.
   pub octet-origin : (q : ℕ) → q < 4 * change .length
       → getD (octets (take (change .length) left)) q 0 ≡ octetFrom s group id (newSize by) old bytes (originOf s by q)
-  unfolding originOf
+  unfolding originOf octetAt
   octet-origin q h =
       let whole : ℕ = 4 * s .words in
       let p : ℕ = q / whole in
@@ -282,11 +250,11 @@ module _ (s : Shape) (words : List ℕ) (len from to : ℕ) (bytes : List ℕ) (
           ≡ octetFrom s group id (newSize by) old bytes (cond (ltb j (header s)) (headerOctet p j) (byteOrigin by (s .room * p + (j - header s))))
       go p j l (under k e) =
           rw e
-          (in-header s group id made (group-fits s words 0) (length-id s words 0) (below-id s words 0) below-made p j k
+          (rw e at (getD-frame s group id made (length-id s words 0) p j l)
           ∙ ap (λ (n : ℕ). getD (headerOctets s group id n p) j 0) (new-size old from to bytes (is .forward) (is .inside)))
       go p j l (over k e) =
           rw e
-          (in-body s group id made (group-fits s words 0) (length-id s words 0) (below-id s words 0) below-made p j k l
+          (rw e at (getD-frame s group id made (length-id s words 0) p j l)
           ∙ byte-from old from to bytes (is .forward) (is .inside) s group id (newSize by) (s .room * p + (j - header s)))
 
   within : (q : ℕ) → Within old bytes (originOf s by q)

@@ -12,6 +12,7 @@ use borrow.Author.Tests.{le-ltb}
 use Rattle.ump.specs.Word.{word}
 use Rattle.ump.specs.Packet.{Shape, sysex8, sysex7, header}
 use Rattle.ump.specs.Packing.{statusFor, frame, packsAt, packs, packetsFor, wordsFor, chunk, pack}
+use Rattle.ump.specs.Origin.{headerOctets}
 use Rattle.ump.proofs.Words.{getD-wordsOf}
 use Rattle.ump.proofs.Sizes.{words-pos}
 use Rattle.ump.proofs.Packing.{length-frame, length-chunk, packet-packs}
@@ -19,13 +20,9 @@ use Rattle.ump.proofs.First.{Side, under, over, side}
 
 -- ---- the octets and words of n bytes, byte i of which is f i
 
--- the header octets of packet p
-abbrev pub headOf : Shape → ℕ → List ℕ → ℕ → ℕ → List ℕ
-headOf s g id n p = (s .type * 16 + g) ∷ (statusFor (packetsFor s n) p * 16 + (min (s .room) (n - s .room * p) + s .bias)) ∷ id
-
 -- octet q of packet p
 unfoldable pub octetAt : Shape → ℕ → List ℕ → ℕ → (ℕ → ℕ) → ℕ → ℕ → ℕ
-octetAt s g id n f p q = cond (ltb q (header s)) (getD (headOf s g id n p) q 0) (f (s .room * p + (q - header s)))
+octetAt s g id n f p q = cond (ltb q (header s)) (getD (headerOctets s g id n p) q 0) (f (s .room * p + (q - header s)))
 
 -- word k of the message
 unfoldable pub wordAt : Shape → ℕ → List ℕ → ℕ → (ℕ → ℕ) → ℕ → ℕ
@@ -52,32 +49,32 @@ module _ (s : Shape) (g : ℕ) (id bs : List ℕ) (hid : length id ≡ s .ids) w
   abbrev status : ℕ → ℕ
   status p = statusFor (packetsFor s size) p
 
-  length-head : (p : ℕ) → length (headOf s g id size p) ≡ header s
+  length-head : (p : ℕ) → length (headerOctets s g id size p) ≡ header s
   length-head p = omega arith
 
   size-chunk : (p : ℕ) → length (chunk s bs p) ≡ min (s .room) (size - s .room * p)
   size-chunk p = simp (length-take, length-drop)
 
-  frame-split : (p : ℕ)
-      → frame s (status p) g id (chunk s bs p) ≡ headOf s g id size p ++ (chunk s bs p ++ replicate (s .room - length (chunk s bs p)) 0)
+  pub frame-split : (p : ℕ)
+      → frame s (status p) g id (chunk s bs p) ≡ headerOctets s g id size p ++ (chunk s bs p ++ replicate (s .room - length (chunk s bs p)) 0)
   unfolding frame
   frame-split p = rw (size-chunk p)
 
-  getD-frame : (p q : ℕ) → q < 4 * s .words → getD (frame s (status p) g id (chunk s bs p)) q 0 ≡ octetAt s g id size (λ i. getD bs i 0) p q
+  pub getD-frame : (p q : ℕ) → q < 4 * s .words → getD (frame s (status p) g id (chunk s bs p)) q 0 ≡ octetAt s g id size (λ i. getD bs i 0) p q
   unfolding octetAt
   getD-frame p q h = rw (frame-split p) (go (side q (header s)))
     where
       go : Side q (header s)
-          → getD (headOf s g id size p ++ (chunk s bs p ++ replicate (s .room - length (chunk s bs p)) 0)) q 0
-          ≡ cond (ltb q (header s)) (getD (headOf s g id size p) q 0) (getD bs (s .room * p + (q - header s)) 0)
-      go (under l e) = rw e (List·getD-append (headOf s g id size p) _ 0 q (omega (arith, length-head p)))
+          → getD (headerOctets s g id size p ++ (chunk s bs p ++ replicate (s .room - length (chunk s bs p)) 0)) q 0
+          ≡ cond (ltb q (header s)) (getD (headerOctets s g id size p) q 0) (getD bs (s .room * p + (q - header s)) 0)
+      go (under l e) = rw e (List·getD-append (headerOctets s g id size p) _ 0 q (omega (arith, length-head p)))
       go (over l e) =
           let i : ℕ = q - header s in
-          let z : q ≡ length (headOf s g id size p) + i = omega (arith, length-head p) in
+          let z : q ≡ length (headerOctets s g id size p) + i = omega (arith, length-head p) in
           let r : i < s .room = omega (arith, s .full) in
           rw e
-          (ap (λ (k : ℕ). getD (headOf s g id size p ++ (chunk s bs p ++ replicate (s .room - length (chunk s bs p)) 0)) k 0) z
-          ∙ getD-append-add (headOf s g id size p) (chunk s bs p ++ replicate (s .room - length (chunk s bs p)) 0) i 0
+          (ap (λ (k : ℕ). getD (headerOctets s g id size p ++ (chunk s bs p ++ replicate (s .room - length (chunk s bs p)) 0)) k 0) z
+          ∙ getD-append-add (headerOctets s g id size p) (chunk s bs p ++ replicate (s .room - length (chunk s bs p)) 0) i 0
           ∙ getD-padded (chunk s bs p) (s .room - length (chunk s bs p)) i
           ∙ getD-take (s .room) (drop (s .room * p) bs) i 0 r
           ∙ getD-drop (s .room * p) bs i 0)

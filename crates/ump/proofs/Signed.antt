@@ -1,4 +1,4 @@
--- Ranges moved by signed growth, as the source has it, are those of `moved`. Assumes nothing.
+-- Ranges moved by signed growth, as 01 has it, are those of `moved`. Assumes nothing.
 use mathlib.Core.Path.{_≡_, refl, sym, ap, ap₂, _∙_}
 use mathlib.Core.Bool.{Bool, true, false, cond}
 use mathlib.Core.List.{List}

@@ -78,7 +78,7 @@ module _ (s : Shape) where
   pub words-mono : (m n : ℕ) → m ≤ n → wordsFor s m ≤ wordsFor s n
   words-mono m n h = mul-le-mul-left (s .words) (packets-mono m n h)
 
--- ---- the place of a packet among several, as a branch in the source has the cases
+-- ---- the place of a packet among several, as the code branches on it
 
 pub status-small : (n p : ℕ) → statusFor n p < 4
 unfolding statusFor

@@ -108,6 +108,13 @@ group-left : ShutOut 1 group-kinds.ps group-kinds.r group.Post
 unfolding setGroup onHeads check checkPackets badType badStatus badCount badGroup badId statusNumber first statusFor
 group-left κs a x s w p = differ (wordIn 0) tt (rw (w .0, w .1, w .2, w .3) at p)
 
+-- group 16 is refused, but was stored first
+group-refused : ShutOut 1 group-kinds.ps group-kinds.r group.Post
+    (λ κs a x s. (a .0 .now ≡ message5) × (a .1 .0 ≡ 12) × (a .1 .1 .0 ≡ 16)
+    × (s .0 .now ≡ 0x501305A0 ∷ 0xA1000000 ∷ 0 ∷ 0 ∷ (alone 0x50210500 ++ alone 0x503205A2)))
+unfolding setGroup onHeads check checkPackets badType badStatus badCount badGroup badId statusNumber first statusFor
+group-refused κs a x s w p = differ (wordIn 0) tt (rw (w .0, w .1, w .2, w .3) at p)
+
 -- the id is stored in octet 3, which is a payload byte (D1)
 id-in-data : ShutOut 1 id-kinds.ps id-kinds.r id.Post
     (λ κs a x s. (a .0 .now ≡ message5) × (a .1 .0 ≡ 12) × (a .1 .1 .0 ≡ 7)

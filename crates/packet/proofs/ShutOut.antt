@@ -1,5 +1,6 @@
--- Wrong answers that the promises shut out, two of each call. Assumes nothing.
+-- Wrong answers that the promises shut out, two of each call or more. Assumes nothing.
 use mathlib.Core.Path.{_≡_}
+use mathlib.Core.Bool.{true, false}
 use mathlib.Core.List.{List, [], _∷_}
 use Prim.Native.Nat.{ℕ}
 use contract.Lifetimes.{Lfts}
@@ -13,10 +14,10 @@ use Rattle.refusal.specs.declared.ByteRead.the-variants.{Value}
 use Rattle.ump.specs.Word.{octets}
 use Rattle.ump.specs.Packet.{sizeOf}
 use Rattle.ump.specs.Check.{badType, badCount}
-use Rattle.ump.specs.Single.{Packet, blank, readPacket8, readPacket7, packetByte, setPacketGroup}
+use Rattle.ump.specs.Single.{Kind, complete, start, continue, end, unexpectedEnd, Packet, blank, readPacket8, readPacket7, packetByte, setPacketGroup}
 use Rattle.ump.specs.Samples.{alone, message2}
 use Rattle.packet.specs.declared.Earlier.the-variants.{Invalid}
-use Rattle.packet.specs.declared.Kind.the-variants.{Complete, UnexpectedEnd}
+use Rattle.packet.specs.declared.Kind.the-variants.{Complete, End, UnexpectedEnd}
 use Rattle.packet.specs.declared.sysex8.PacketRead.the-variants as read8v
 use Rattle.packet.specs.declared.sysex7.PacketRead.the-variants as read7v
 use Rattle.packet.proofs.sysex8.read_packet.Kinds as read8-kinds
@@ -38,6 +39,17 @@ message11 = 0x3002C142 ∷ 0 ∷ []
 abbrev sizeIn : Answer Packet → ℕ
 sizeIn = told (λ (p : Packet). p .size)
 
+abbrev kindNumber : Kind → ℕ
+kindNumber complete = 0
+kindNumber start = 1
+kindNumber continue = 2
+kindNumber end = 3
+kindNumber (unexpectedEnd false) = 4
+kindNumber (unexpectedEnd true) = 5
+
+abbrev kindIn : Answer Packet → ℕ
+kindIn = told (λ (p : Packet). kindNumber (p .kind))
+
 -- P2: the count is not the payload size
 read8-count : ShutOut 1 read8-kinds.ps read8-kinds.r read8.Post
     (λ κs a x s. (a .0 .now ≡ message2) × (x ≡ read8v.Packet (record { kind = Complete; group = 2; id = 7; size = 3 })))
@@ -49,6 +61,17 @@ read8-dirty : ShutOut 1 read8-kinds.ps read8-kinds.r read8.Post
     (λ κs a x s. (a .0 .now ≡ alone 0x503F0901) × (x ≡ read8v.Packet (record { kind = UnexpectedEnd Invalid; group = 0; id = 9; size = 0 })))
 unfolding readPacket8 badType badCount blank octets sizeOf
 read8-dirty κs a x s w p = differ sizeIn tt (rw (w .0, w .1) at p)
+
+-- an end of zeros with count 1 is unexpected with valid data before it: it is no plain end, and its data is not invalid
+read8-plain : ShutOut 1 read8-kinds.ps read8-kinds.r read8.Post
+    (λ κs a x s. (a .0 .now ≡ alone 0x50310900) × (x ≡ read8v.Packet (record { kind = End; group = 0; id = 9; size = 0 })))
+unfolding readPacket8 badType badCount blank octets sizeOf
+read8-plain κs a x s w p = differ kindIn tt (rw (w .0, w .1) at p)
+
+read8-invalid : ShutOut 1 read8-kinds.ps read8-kinds.r read8.Post
+    (λ κs a x s. (a .0 .now ≡ alone 0x50310900) × (x ≡ read8v.Packet (record { kind = UnexpectedEnd Invalid; group = 0; id = 9; size = 0 })))
+unfolding readPacket8 badType badCount blank octets sizeOf
+read8-invalid κs a x s w p = differ kindIn tt (rw (w .0, w .1) at p)
 
 -- P11: the count is the payload size
 read7-count : ShutOut 1 read7-kinds.ps read7-kinds.r read7.Post

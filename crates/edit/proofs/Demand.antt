@@ -15,7 +15,7 @@ use Rattle.refusal.specs.declared.Fault.{Fault}
 use Rattle.refusal.proofs.Laws.{never-refused}
 use Rattle.ump.specs.Word.{Below}
 use Rattle.ump.specs.Packet.{sysex8, groupAt, idAt}
-use Rattle.ump.specs.Packing.{wordsFor}
+use Rattle.ump.specs.Packing.{wordsFor, pack}
 use Rattle.ump.specs.Check.{payloadOf}
 use Rattle.ump.specs.Splice as ump
 use Rattle.ump.specs.Edits as edits
@@ -225,14 +225,35 @@ module _ {words : List ℕ} {len : ℕ} {patches : List Patch} (fits : Fits word
   result [] (o, l) left size w = absurd (omega (arith, fits .some))
   result (i ∷ order) (o, l) left size w = rw (mixed-order payload patches (fits .apart) (i ∷ order) o l) at (ends i order o (finished left size) w)
 
-  -- 3. Two workers, each in an order of its own and with any outcomes of its calls, come to the same length and the same words of
-  -- the message. (Words past the message may differ.)
-  pub two-workers : (order other : List ℕ) → Each patches order → Each patches other
-      → (left left-other : List ℕ) (size size-other : ℕ)
-      → Works patches (start words len patches) order (finished left size)
-      → Works patches (start words len patches) other (finished left-other size-other)
-      → (size ≡ size-other) × (take size left ≡ take size-other left-other)
-  two-workers order other e f left left-other size size-other w v =
-      let a = result order e left size w in
-      let b = result other f left-other size-other v in
-      (a .length-is ∙ sym (b .length-is), a .packed ∙ sym (b .packed))
+-- 3. Two workers, each with words of its own, whose messages have one group, id and payload, each in an order of its own and with any
+-- outcomes of its calls, come to the same length and the same words of the message. (Words past the message may differ.)
+pub two-buffers : {words other : List ℕ} {len len-other : ℕ} {patches : List Patch}
+    → Fits words len patches → Fits other len-other patches
+    → groupAt sysex8 words 0 ≡ groupAt sysex8 other 0
+    → idAt sysex8 words 0 ≡ idAt sysex8 other 0
+    → payloadOf sysex8 words len ≡ payloadOf sysex8 other len-other
+    → (order order-other : List ℕ) → Each patches order → Each patches order-other
+    → (left left-other : List ℕ) (size size-other : ℕ)
+    → Works patches (start words len patches) order (finished left size)
+    → Works patches (start other len-other patches) order-other (finished left-other size-other)
+    → (size ≡ size-other) × (take size left ≡ take size-other left-other)
+two-buffers {words} {other} {len} {len-other} {patches} fits fits-other g i p order order-other e f left left-other size size-other w v =
+    let a = result fits order e left size w in
+    let b = result fits-other order-other f left-other size-other v in
+    let new = replaced (payloadOf sysex8 words len) patches in (
+      a .length-is ∙ ap (λ (x : List ℕ). wordsFor sysex8 (length (replaced x patches))) p ∙ sym (b .length-is),
+      a .packed
+          ∙ ap (λ (x : ℕ). pack sysex8 x (idAt sysex8 words 0) new) g
+          ∙ ap (λ (x : List ℕ). pack sysex8 (groupAt sysex8 other 0) x new) i
+          ∙ ap (λ (x : List ℕ). pack sysex8 (groupAt sysex8 other 0) (idAt sysex8 other 0) (replaced x patches)) p
+          ∙ sym (b .packed),
+    )
+
+-- The same where both begin with the same words.
+pub two-workers : {words : List ℕ} {len : ℕ} {patches : List Patch} → Fits words len patches
+    → (order other : List ℕ) → Each patches order → Each patches other
+    → (left left-other : List ℕ) (size size-other : ℕ)
+    → Works patches (start words len patches) order (finished left size)
+    → Works patches (start words len patches) other (finished left-other size-other)
+    → (size ≡ size-other) × (take size left ≡ take size-other left-other)
+two-workers fits = two-buffers fits fits refl refl refl

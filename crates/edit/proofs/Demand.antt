@@ -24,7 +24,7 @@ use Rattle.ump.specs.Demand.{Holds, Packed}
 use Rattle.ump.proofs.First.{is-false}
 use Rattle.ump.proofs.Sizes.{packets-enough, words-mono}
 use Rattle.ump.proofs.Checks.{passes-valid}
-use Rattle.ump.proofs.Replace.{mixed, mixed-none, mixed-order, length-mixed, range-forward, range-inside, step, after, elem-same, fresh}
+use Rattle.ump.proofs.Replace.{or-right-true, mixed, mixed-none, mixed-order, length-mixed, range-forward, range-inside, step, after, elem-same, fresh}
 use Rattle.ump.proofs.Splicing.{splice-packs}
 use Rattle.ump.proofs.Moving.{rangeNow, editNow, move-past, chase-is}
 use Rattle.splice.specs.Meaning.{splicedMeaning}
@@ -35,7 +35,6 @@ use Rattle.edit.specs.declared.Edit.{Edit}
 use Rattle.edit.specs.declared.Range.{Range}
 use Rattle.edit.specs.declared.Moved.{Moved}
 use Rattle.edit.specs.declared.Moved.the-variants as moving
-use Rattle.edit.proofs.Staged.{or-true}
 use Rattle.edit.proofs.Worker.{Splices, Moves, Held, End, finished, stopped, editOver, Works, rests, goes-on, splice-refused, move-refused, start, Fits, Each, Fewest}
 
 -- ---- each promise as an equation over plain values
@@ -137,7 +136,7 @@ module _ (g : ℕ) (id p : List ℕ) (size : ℕ) (es : List Patch) (a : Apart e
         (not-same i k order (is-false _ (at .each .1)) e) fresh-i (at .left k later))
       where
         later : elem k (i ∷ order) ≡ true
-        later = or-true (eqb k i) (elem k order) e
+        later = or-right-true (eqb k i) (elem k order) e
 
         edit-is : (j : ℕ) → elem j (i ∷ order) ≡ true → editMeaning (editOver es j (held .range j)) ≡ editNow es ds j
         edit-is j t =

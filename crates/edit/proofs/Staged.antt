@@ -8,7 +8,7 @@ use native.Mathlib.Omega.{arith}
 use lib.Dec.{eqb}
 use lib.ListN.{length}
 use Rattle.ump.specs.Edits.{Patch, Apart, replaced, elem, Order}
-use Rattle.ump.proofs.Replace.{mixed, size-mixed, total-mono, after, elem-after, order-all}
+use Rattle.ump.proofs.Replace.{or-right-true, mixed, size-mixed, total-mono, after, elem-after, order-all}
 use Rattle.ump.proofs.Counting.{total-add}
 use Rattle.edit.specs.Passes.{put, out}
 use Rattle.edit.proofs.Apart.{size-replaced}
@@ -65,10 +65,6 @@ pub elem-append : (i : ℕ) (xs ys : List ℕ) → elem i (xs ++ ys) ≡ elem i 
 elem-append i [] ys = refl
 elem-append i (x ∷ xs) ys = rw (elem-append i xs ys) (or-assoc (eqb i x) (elem i xs) (elem i ys))
 
-pub or-true : (a b : Bool) → b ≡ true → (a || b) ≡ true
-or-true true b e = refl
-or-true false b e = e
-
 or-more : (a b c : Bool) → (b ≡ true → c ≡ true) → (a || b) ≡ true → (a || c) ≡ true
 or-more true b c h e = refl
 or-more false b c h e = h e
@@ -89,7 +85,7 @@ data Done (front back early late : List ℕ) : Type 0 where
 done : (front back early late : List ℕ) → early ++ late ≡ front ++ back → Done front back early late
 done [] back early late e = less (λ i h. let z : _≡_ {A = ℕ} 0 1 = cc in absurd (omega arith))
 done (x ∷ front) back [] late e =
-    more (λ i h. rw (e, elem-append i (x ∷ front) back) (or-true (elem i (x ∷ front)) (elem i back) h))
+    more (λ i h. rw (e, elem-append i (x ∷ front) back) (or-right-true (elem i (x ∷ front)) (elem i back) h))
 done (x ∷ front) back (y ∷ early) late e = go (done front back early late (cc))
   where
     go : Done front back early late → Done (x ∷ front) back (y ∷ early) late

@@ -296,7 +296,7 @@ order-all m is o l j h = go (elem j is) (total-full (count is) m (count-le is) (
 
 -- ---- demand 3 on payloads
 
-or-right-true : (a b : Bool) → b ≡ true → (a || b) ≡ true
+pub or-right-true : (a b : Bool) → b ≡ true → (a || b) ≡ true
 or-right-true true b e = refl
 or-right-true false b e = e
 

@@ -1,0 +1,265 @@
+/*
+ * latchbeacon: MIDI 2.0 SysEx8 bulk dumps: check, read, set, pack and splice, in buffers that the caller lends.
+ *
+ * Every call answers for any words, bytes and numbers. It takes no memory, keeps nothing and never stops the program; calls on
+ * buffers that do not overlap may run at the same time.
+ *
+ * Buffers. A buffer is a pointer and the number of its items, which are there for the length of the call. A pointer is never
+ * null, not even for no items: any aligned address will do there. Two buffers of one call do not overlap. No buffer that a call
+ * only reads is changed, and no word or byte past the number given is read or changed.
+ *
+ * Words. A message is the first `length` of `words_lent` words. At most 16,384 words are taken (4,096 packets, 53,248 payload bytes
+ * of SysEx8). A word is a number of the machine: octet 0 is its most significant.
+ *
+ * Answers. `refusal` is 0 if the call is accepted, else one of the numbers below; then `place` says where, every value in the
+ * answer is 0 and every lent buffer holds what it held before. An accepted answer has place 0.
+ *
+ * "The check's refusals" are 1 to 12 (SysEx7: 1 to 11) in this order, each over all packets before the next, except that 6 to 9 are
+ * one walk.
+ */
+#ifndef LATCHBEACON_H
+#define LATCHBEACON_H
+
+#include <stdbool.h>
+#include <stddef.h>
+#include <stdint.h>
+
+#ifdef __cplusplus
+extern "C" {
+#endif
+
+/* Why a call refuses. The place is the word index of the first packet at fault for 5 to 12, the index of the first such byte for 18,
+ * else 0. */
+enum latchbeacon_refusal {
+    LATCHBEACON_LONG = 1,      /* more than 16,384 words lent */
+    LATCHBEACON_LENGTH = 2,    /* message length above the words lent */
+    LATCHBEACON_SHORT = 3,     /* under 4 words (SysEx7: 2) */
+    LATCHBEACON_RAGGED = 4,    /* not whole packets */
+    LATCHBEACON_TYPE = 5,      /* a packet of another type */
+    LATCHBEACON_COMPLETE = 6,  /* one packet, status not 0 */
+    LATCHBEACON_BEGIN = 7,     /* several packets, first not 1 */
+    LATCHBEACON_CONTINUE = 8,  /* an inner packet not 2 */
+    LATCHBEACON_END = 9,       /* last of several not 3 */
+    LATCHBEACON_COUNT = 10,    /* SysEx8 0 or 15, SysEx7 over 6 */
+    LATCHBEACON_GROUP = 11,    /* differs from the first packet */
+    LATCHBEACON_STREAM = 12,   /* SysEx8 id differs from the first */
+    LATCHBEACON_RANGE = 13,    /* from above to, or to above the payload size; byte index not below it; a number within an edit above
+                                  53,248 */
+    LATCHBEACON_ROOM = 14,     /* words needed exceed words lent for output (payload out: bytes) */
+    LATCHBEACON_STATUS = 15,   /* single packet, status over 3 */
+    LATCHBEACON_FIELD = 16,    /* field index, or value for a field, too big */
+    LATCHBEACON_FRAME = 17,    /* stream under 2 bytes, first not F0 or last not F7 */
+    LATCHBEACON_BYTE = 18,     /* a byte of 80 hex or more between them */
+    LATCHBEACON_SPREAD = 19,   /* packing would need more words than the message has */
+    LATCHBEACON_OVERLAP = 20   /* edits not in the stated order */
+};
+
+/* What a packet is. An unexpected end is SysEx8's alone. */
+enum latchbeacon_kind {
+    LATCHBEACON_KIND_COMPLETE = 0,
+    LATCHBEACON_KIND_START = 1,
+    LATCHBEACON_KIND_CONTINUE = 2,
+    LATCHBEACON_KIND_END = 3,
+    LATCHBEACON_KIND_UNEXPECTED_END_VALID = 4,   /* unexpected end, earlier data valid */
+    LATCHBEACON_KIND_UNEXPECTED_END_INVALID = 5  /* unexpected end, earlier data invalid */
+};
+
+/* A number: a byte, a field, a word with a field set, a size in bytes, a length in words; 0 where a call only stores. */
+typedef struct {
+    uint8_t refusal;
+    size_t place;
+    size_t value;
+} latchbeacon_number;
+
+/* A packet: its kind (enum latchbeacon_kind), group, stream id (0 for SysEx7) and payload size. */
+typedef struct {
+    uint8_t refusal;
+    size_t place;
+    uint8_t kind;
+    uint8_t group;
+    uint8_t id;
+    size_t size;
+} latchbeacon_packet;
+
+/* A message: its group, stream id (0 for SysEx7), payload size in bytes and length in words. */
+typedef struct {
+    uint8_t refusal;
+    size_t place;
+    uint8_t group;
+    uint8_t id;
+    size_t size;
+    size_t words;
+} latchbeacon_message;
+
+/* What a splice did: the new length in words; and the growth, replacement length minus range length, which may be below zero. */
+typedef struct {
+    uint8_t refusal;
+    size_t place;
+    size_t length;
+    int64_t growth;
+} latchbeacon_change;
+
+/* The growth of an edit. */
+typedef struct {
+    uint8_t refusal;
+    size_t place;
+    int64_t growth;
+} latchbeacon_edit_growth;
+
+/* The new range of an edit. */
+typedef struct {
+    uint8_t refusal;
+    size_t place;
+    size_t from;
+    size_t to;
+} latchbeacon_range;
+
+/* Where a reader of a payload stands: packet, byte within it, and how many bytes are to be read. */
+typedef struct {
+    uint8_t refusal;
+    size_t place;
+    size_t packet;
+    size_t byte;
+    size_t remaining;
+} latchbeacon_cursor;
+
+/* What a reader read: whether the payload has ended, the byte (0 at the end), and where the reader stands then. */
+typedef struct {
+    bool ended;
+    uint8_t value;
+    size_t packet;
+    size_t byte;
+    size_t remaining;
+} latchbeacon_read;
+
+/* ---- fields of a word; index 0 is the most significant -------------------------------------------------------------------- */
+
+/* Answer the field. Refusal: 16 (index: bit 32, crumb 16, nibble 8, septet and octet 4, word 2 and above). A septet is the low seven
+ * bits of an octet, a word is 16 bits. */
+latchbeacon_number latchbeacon_bit(uint32_t word, size_t index);
+latchbeacon_number latchbeacon_crumb(uint32_t word, size_t index);
+latchbeacon_number latchbeacon_nibble(uint32_t word, size_t index);
+latchbeacon_number latchbeacon_septet(uint32_t word, size_t index);
+latchbeacon_number latchbeacon_octet(uint32_t word, size_t index);
+latchbeacon_number latchbeacon_word(uint32_t word, size_t index);
+
+/* Answer the word with the field set, all its other bits kept (a septet's octet keeps its top bit). Refusal: 16 (index as above, or
+ * a value that the field cannot hold). */
+latchbeacon_number latchbeacon_set_bit(uint32_t word, size_t index, bool value);
+latchbeacon_number latchbeacon_set_crumb(uint32_t word, size_t index, uint8_t value);
+latchbeacon_number latchbeacon_set_nibble(uint32_t word, size_t index, uint8_t value);
+latchbeacon_number latchbeacon_set_septet(uint32_t word, size_t index, uint8_t value);
+latchbeacon_number latchbeacon_set_octet(uint32_t word, size_t index, uint8_t value);
+latchbeacon_number latchbeacon_set_word(uint32_t word, size_t index, uint16_t value);
+
+/* ---- single packets: the first 4 words (SysEx7: 2), of any number lent ------------------------------------------------------ */
+
+/* Answers kind, group, stream id and payload size of the packet. Refusals, in this order: 3, 5, 15, 10. */
+latchbeacon_packet latchbeacon_sysex8_packet(const uint32_t *words, size_t words_lent);
+
+/* Answers a payload byte of the packet. Refusals: those of latchbeacon_sysex8_packet, then 13 (index not below the payload size). */
+latchbeacon_number latchbeacon_sysex8_packet_byte(const uint32_t *words, size_t words_lent, size_t index);
+
+/* Sets the group of the packet (0 to 15); every other bit lent stays. Refusals: those of latchbeacon_sysex8_packet, then 16. */
+latchbeacon_number latchbeacon_sysex8_packet_set_group(uint32_t *words, size_t words_lent, uint8_t group);
+
+/* Answers kind, group and payload size of the packet; the id is 0. Refusals, in this order: 3, 5, 10, 15. */
+latchbeacon_packet latchbeacon_sysex7_packet(const uint32_t *words, size_t words_lent);
+
+/* Answers a payload byte of the packet, its low seven bits. Refusals: those of latchbeacon_sysex7_packet, then 13. */
+latchbeacon_number latchbeacon_sysex7_packet_byte(const uint32_t *words, size_t words_lent, size_t index);
+
+/* Sets the group of the packet (0 to 15); every other bit lent stays. Refusals: those of latchbeacon_sysex7_packet, then 16. */
+latchbeacon_number latchbeacon_sysex7_packet_set_group(uint32_t *words, size_t words_lent, uint8_t group);
+
+/* ---- messages --------------------------------------------------------------------------------------------------------------- */
+
+/* Checks the SysEx8 message in the first `length` words; answers group, stream id, payload size and words. Refusals: 1 to 12. */
+latchbeacon_message latchbeacon_sysex8_check(const uint32_t *words, size_t words_lent, size_t length);
+
+/* Checks the SysEx7 message in the first `length` words; the id is 0. Refusals: 1 to 11. */
+latchbeacon_message latchbeacon_sysex7_check(const uint32_t *words, size_t words_lent, size_t length);
+
+/* Answers payload byte `index` of the message. Refusals: the check's, then 13. */
+latchbeacon_number latchbeacon_sysex8_byte(const uint32_t *words, size_t words_lent, size_t length, size_t index);
+
+/* Copies the payload to `bytes` and answers its size; bytes past it stay. Refusals: the check's, then 14 (fewer than that lent). */
+latchbeacon_number latchbeacon_sysex8_payload(const uint32_t *words, size_t words_lent, size_t length, uint8_t *bytes,
+                                              size_t bytes_lent);
+
+/* Sets the group of every packet of the message (0 to 15); every other bit lent stays. Refusals: the check's, then 16. */
+latchbeacon_number latchbeacon_sysex8_set_group(uint32_t *words, size_t words_lent, size_t length, uint8_t group);
+
+/* Sets the stream id, octet 2, of every packet of the message; every other bit lent stays. Refusals: the check's. */
+latchbeacon_number latchbeacon_sysex8_set_stream_id(uint32_t *words, size_t words_lent, size_t length, uint8_t id);
+
+/* Sets payload byte `index` of the message; every other bit lent stays. Refusals: the check's, then 13. */
+latchbeacon_number latchbeacon_sysex8_set_byte(uint32_t *words, size_t words_lent, size_t length, size_t index, uint8_t value);
+
+/* ---- fewest-packet form ------------------------------------------------------------------------------------------------------
+ * Every packet but the last carries 13 bytes, group and stream id are the old first packet's, and the unused octets of the last
+ * packet are zero. Words past the new end that belonged to the old message are zero; all others past it stay. */
+
+/* Answers the words that the fewest-packet form of a payload of `size` bytes takes. It refuses nothing; the largest sizes are
+ * answered with the exact number too. */
+size_t latchbeacon_sysex8_words_needed(size_t size);
+
+/* Rewrites the message in fewest-packet form and answers its new length in words. Refusals: the check's, then 19 and 14, which no
+ * message calls for. */
+latchbeacon_number latchbeacon_sysex8_repack(uint32_t *words, size_t words_lent, size_t length);
+
+/* Replaces the payload bytes from..to by `replacement` and writes the fewest-packet form. Refusals: the check's, then 13, 14. */
+latchbeacon_change latchbeacon_sysex8_splice(uint32_t *words, size_t words_lent, size_t length, size_t from, size_t to,
+                                             const uint8_t *replacement, size_t replacement_lent);
+
+/* Sets the payload: a splice of the whole. Refusals: the check's, then 14. */
+latchbeacon_change latchbeacon_sysex8_set_payload(uint32_t *words, size_t words_lent, size_t length, const uint8_t *bytes,
+                                                  size_t bytes_lent);
+
+/* Replaces all ranges of a list of edits at once. Edit i is numbers[3i], numbers[3i + 1] and numbers[3i + 2]: from, to and replacement
+ * length, as of the message before the call; its bytes follow those of the edits before it in `bytes`. The edits are in ascending
+ * order, each ending no later than the next begins. The growth is that of all of them. Refusals: the check's, then 13 (also when the
+ * numbers are not three to an edit, or the bytes are not as many as the lengths say), 20, 14. */
+latchbeacon_change latchbeacon_sysex8_splice_all(uint32_t *words, size_t words_lent, size_t length, const size_t *numbers,
+                                                 size_t numbers_lent, const uint8_t *bytes, size_t bytes_lent);
+
+/* ---- edits: from, to and replacement length ---------------------------------------------------------------------------------- */
+
+/* Answers replacement length minus range length. Refusal: 13 (reversed, or a number above 53,248). */
+latchbeacon_edit_growth latchbeacon_growth(size_t from, size_t to, size_t length);
+
+/* Answers the pending edit's new range once the done one is spliced. Both are given as of the message just before that;
+ * `done_first` says that the done edit stands first. Refusals: 13 (either edit), then 20 (first's to above second's from). */
+latchbeacon_range latchbeacon_move_edit(size_t done_from, size_t done_to, size_t done_length, size_t pending_from,
+                                        size_t pending_to, size_t pending_length, bool done_first);
+
+/* ---- reading a payload byte by byte -------------------------------------------------------------------------------------------
+ * A reader is a cursor: packet, byte and remaining, passed in and answered moved on. These calls take any numbers: a packet of count
+ * 0 or 15 is empty, a byte at or past its packet's size moves on to the next packet, and words short of a packet are ignored. */
+
+/* Answers the cursor at the start of the message in the first `length` words; read on with those words, so with words_lent =
+ * length. Refusals: the check's. */
+latchbeacon_cursor latchbeacon_sysex8_open(const uint32_t *words, size_t words_lent, size_t length);
+
+/* Answers the next byte, or the end, and after the end the end for ever. Refuses nothing. */
+latchbeacon_read latchbeacon_sysex8_next(const uint32_t *words, size_t words_lent, size_t packet, size_t byte, size_t remaining);
+
+/* Skips `skip` bytes and reads one. Refuses nothing. */
+latchbeacon_read latchbeacon_sysex8_nth(const uint32_t *words, size_t words_lent, size_t packet, size_t byte, size_t remaining,
+                                        size_t skip);
+
+/* Answers how many bytes remain: the smaller of `remaining` and the bytes that stand there. Refuses nothing. */
+size_t latchbeacon_sysex8_remaining(const uint32_t *words, size_t words_lent, size_t packet, size_t byte, size_t remaining);
+
+/* ---- byte stream to SysEx7 ----------------------------------------------------------------------------------------------------- */
+
+/* Writes F0, data, F7 as SysEx7 packets of six bytes, only the last shorter, and answers their words; words past them stay.
+ * Refusals, in this order: 1, 16 (group over 15), 17, 18, 14. */
+latchbeacon_number latchbeacon_bytes_to_sysex7(const uint8_t *bytes, size_t bytes_lent, uint8_t group, uint32_t *words,
+                                               size_t words_lent);
+
+#ifdef __cplusplus
+}
+#endif
+
+#endif

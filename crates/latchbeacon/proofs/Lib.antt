@@ -1,0 +1,4 @@
+-- Laws for the exported calls, and that their promises are tight.
+pub mod Laws
+pub mod Unique
+pub mod ShutOut

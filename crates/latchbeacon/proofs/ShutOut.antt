@@ -1,0 +1,151 @@
+-- Wrong structs that the promises shut out, two of each kind of struct, each on a concrete input. What else is wrong is shut out by the
+-- promise of the wrapped call, of which an exported call answers the struct. Assumes nothing.
+use mathlib.Core.Path.{_≡_}
+use mathlib.Core.Bool.{true, false, cond}
+use mathlib.Core.List.{List, [], _∷_}
+use Prim.Native.Nat.{ℕ, _+_, _*_}
+use lib.IntN.{ℤ, pos, negsuc}
+use lib.ListN.{getD}
+use Rattle.refusal.proofs.Tight.{ShutOut, Shuts, differ}
+use Rattle.ump.specs.Word.{getField, octets, wordsOf}
+use Rattle.ump.specs.Packet.{sizeOf, payloadAt, joined, payload}
+use Rattle.ump.specs.Packing.{statusFor, frame, packsAt, packs, packetsFor, pack}
+use Rattle.ump.specs.Single.{readPacket8, blank}
+use Rattle.ump.specs.Check.{first, badType, badStatus, badCount, badGroup, badId, statusNumber, checkPackets, check, checked}
+use Rattle.ump.specs.Splice.{stored, rewritten, splice}
+use Rattle.ump.specs.Edits.{moveEdit}
+use Rattle.ump.specs.Reader.{row, walk, places, unread, nth, reader}
+use Rattle.ump.specs.Samples.{alone, message2}
+use Rattle.edit.specs.Growth.{growthOf}
+use Rattle.latchbeacon.specs.declared.answers.NumberAnswer.{NumberAnswer}
+use Rattle.latchbeacon.specs.declared.answers.PacketAnswer.{PacketAnswer}
+use Rattle.latchbeacon.specs.declared.answers.MessageAnswer.{MessageAnswer}
+use Rattle.latchbeacon.specs.declared.answers.ChangeAnswer.{ChangeAnswer}
+use Rattle.latchbeacon.specs.declared.answers.GrowthAnswer.{GrowthAnswer}
+use Rattle.latchbeacon.specs.declared.answers.RangeAnswer.{RangeAnswer}
+use Rattle.latchbeacon.specs.declared.answers.CursorAnswer.{CursorAnswer}
+use Rattle.latchbeacon.specs.declared.answers.ReadAnswer.{ReadAnswer}
+use Rattle.latchbeacon.proofs.fields.latchbeacon_bit.Reads as bit
+use Rattle.latchbeacon.proofs.packets.latchbeacon_sysex8_packet.Kinds as packet-kinds
+use Rattle.latchbeacon.proofs.packets.latchbeacon_sysex8_packet.Reads as packet
+use Rattle.latchbeacon.proofs.messages.latchbeacon_sysex8_check.Kinds as check-kinds
+use Rattle.latchbeacon.proofs.messages.latchbeacon_sysex8_check.Reads as check-promise
+use Rattle.latchbeacon.proofs.splices.latchbeacon_sysex8_splice.Kinds as splice-kinds
+use Rattle.latchbeacon.proofs.splices.latchbeacon_sysex8_splice.Reads as splice-promise
+use Rattle.latchbeacon.proofs.edits.latchbeacon_growth.Reads as growth
+use Rattle.latchbeacon.proofs.edits.latchbeacon_move_edit.Reads as move
+use Rattle.latchbeacon.proofs.cursors.latchbeacon_sysex8_open.Kinds as open-kinds
+use Rattle.latchbeacon.proofs.cursors.latchbeacon_sysex8_open.Reads as opened
+use Rattle.latchbeacon.proofs.cursors.latchbeacon_sysex8_next.Kinds as next-kinds
+use Rattle.latchbeacon.proofs.cursors.latchbeacon_sysex8_next.Reads as next
+
+abbrev signed : ℤ → ℕ
+signed (pos n) = 2 * n
+signed (negsuc n) = 2 * n + 1
+
+-- ---- a number: bit 32 of a word of ones
+
+-- a refused call does not say that it is accepted
+bit-accepted : Shuts bit.Post (0xFFFFFFFF, (32, tt)) (record { refusal = 0; place = 0; value = 0 })
+unfolding getField
+bit-accepted κs s p = differ (λ (r : NumberAnswer). r .refusal) tt p
+
+-- and answers no value
+bit-value : Shuts bit.Post (0xFFFFFFFF, (32, tt)) (record { refusal = 16; place = 0; value = 1 })
+unfolding getField
+bit-value κs s p = differ (λ (r : NumberAnswer). r .value) tt p
+
+-- ---- a packet: the ends of P10
+
+-- earlier data that is invalid is not valid
+packet-valid : ShutOut 1 packet-kinds.ps packet-kinds.r packet.Post
+    (λ κs a x s. (a .0 .now ≡ alone 0x503F0900) × (x ≡ record { refusal = 0; place = 0; kind = 4; group = 0; id = 9; size = 0 }))
+unfolding readPacket8 blank sizeOf badType badCount octets
+packet-valid κs a x s w p = differ (λ (r : PacketAnswer). r .kind) tt (rw (w .0, w .1) at p)
+
+-- an end with one byte is no unexpected end
+packet-end : ShutOut 1 packet-kinds.ps packet-kinds.r packet.Post
+    (λ κs a x s. (a .0 .now ≡ alone 0x50320900) × (x ≡ record { refusal = 0; place = 0; kind = 4; group = 0; id = 9; size = 1 }))
+unfolding readPacket8 blank sizeOf badType badCount octets
+packet-end κs a x s w p = differ (λ (r : PacketAnswer). r .kind) tt (rw (w .0, w .1) at p)
+
+-- ---- a message: P2's, and a start alone
+
+-- the stream id is not left out
+check-id : ShutOut 1 check-kinds.ps check-kinds.r check-promise.Post
+    (λ κs a x s. (a .0 .now ≡ message2) × (a .1 .0 ≡ 4) × (x ≡ record { refusal = 0; place = 0; group = 2; id = 0; size = 2; words = 4 }))
+unfolding checked check checkPackets badType badStatus badCount badGroup badId statusNumber first statusFor payload payloadAt sizeOf octets joined
+check-id κs a x s w p = differ (λ (r : MessageAnswer). r .id) tt (rw (w .0, w .1, w .2) at p)
+
+-- a refused message has no words
+check-words : ShutOut 1 check-kinds.ps check-kinds.r check-promise.Post
+    (λ κs a x s. (a .0 .now ≡ alone 0x50110000) × (a .1 .0 ≡ 4) × (x ≡ record { refusal = 6; place = 0; group = 0; id = 0; size = 0; words = 4 }))
+unfolding checked check checkPackets badType badStatus badCount badGroup badId statusNumber first statusFor payload payloadAt sizeOf octets joined
+check-words κs a x s w p = differ (λ (r : MessageAnswer). r .words) tt (rw (w .0, w .1, w .2) at p)
+
+-- ---- a change: P2's message with its last byte taken out
+
+abbrev shorter : List ℕ
+shorter = 0x52020741 ∷ 0 ∷ 0 ∷ 0 ∷ []
+
+-- the growth is below zero
+change-growth : ShutOut 2 splice-kinds.ps splice-kinds.r splice-promise.Post
+    (λ κs a x s. (a .0 .now ≡ message2) × (a .1 .0 ≡ 4) × (a .1 .1 .0 ≡ 1) × (a .1 .1 .1 .0 ≡ 2) × (a .1 .1 .1 .1 .0 .now ≡ [])
+    × (x ≡ record { refusal = 0; place = 0; length = 4; growth = pos 1 }) × (s .0 .now ≡ shorter))
+unfolding splice check checkPackets badType badStatus badCount badGroup badId statusNumber first statusFor payload payloadAt sizeOf octets joined stored rewritten frame packsAt packs packetsFor pack wordsOf
+change-growth κs a x s w p =
+    differ (λ (o : ChangeAnswer × List ℕ). signed (o .0 .growth)) tt (rw (w .0, w .1, w .2, w .3, w .4, w .5, w .6) at p)
+
+-- the words are not those that were lent
+change-words : ShutOut 2 splice-kinds.ps splice-kinds.r splice-promise.Post
+    (λ κs a x s. (a .0 .now ≡ message2) × (a .1 .0 ≡ 4) × (a .1 .1 .0 ≡ 1) × (a .1 .1 .1 .0 ≡ 2) × (a .1 .1 .1 .1 .0 .now ≡ [])
+    × (x ≡ record { refusal = 0; place = 0; length = 4; growth = negsuc 0 }) × (s .0 .now ≡ message2))
+unfolding splice check checkPackets badType badStatus badCount badGroup badId statusNumber first statusFor payload payloadAt sizeOf octets joined stored rewritten frame packsAt packs packetsFor pack wordsOf
+change-words κs a x s w p =
+    differ (λ (o : ChangeAnswer × List ℕ). getD (o .1) 0 0) tt (rw (w .0, w .1, w .2, w .3, w .4, w .5, w .6) at p)
+
+-- ---- the growth of an edit, and the range of one that is moved
+
+growth-unsigned : Shuts growth.Post (2, (3, (0, tt))) (record { refusal = 0; place = 0; growth = pos 1 })
+unfolding growthOf
+growth-unsigned κs s p = differ (λ (r : GrowthAnswer). signed (r .growth)) tt p
+
+growth-reversed : Shuts growth.Post (3, (2, (0, tt))) (record { refusal = 0; place = 0; growth = pos 1 })
+unfolding growthOf
+growth-reversed κs s p = differ (λ (r : GrowthAnswer). r .refusal) tt p
+
+-- the done edit of P8 is first and grows: the pending one does not stay
+range-unmoved : Shuts move.Post (0, (1, (2, (2, (3, (0, (true, tt))))))) (record { refusal = 0; place = 0; from = 2; to = 3 })
+unfolding moveEdit
+range-unmoved κs s p = differ (λ (r : RangeAnswer). r .from) tt p
+
+-- edits that overlap are refused 20, and no range is answered
+range-overlap : Shuts move.Post (0, (3, (2, (2, (3, (0, (true, tt))))))) (record { refusal = 20; place = 0; from = 2; to = 3 })
+unfolding moveEdit
+range-overlap κs s p = differ (λ (r : RangeAnswer). r .from) tt p
+
+-- ---- a cursor, and what it reads: P2's message
+
+cursor-size : ShutOut 1 open-kinds.ps open-kinds.r opened.Post
+    (λ κs a x s. (a .0 .now ≡ message2) × (a .1 .0 ≡ 4) × (x ≡ record { refusal = 0; place = 0; packet = 0; byte = 0; remaining = 3 }))
+unfolding reader check checkPackets badType badStatus badCount badGroup badId statusNumber first statusFor payload payloadAt sizeOf octets joined
+cursor-size κs a x s w p = differ (λ (r : CursorAnswer). r .remaining) tt (rw (w .0, w .1, w .2) at p)
+
+cursor-refused : ShutOut 1 open-kinds.ps open-kinds.r opened.Post
+    (λ κs a x s. (a .0 .now ≡ alone 0x50110000) × (a .1 .0 ≡ 4) × (x ≡ record { refusal = 0; place = 0; packet = 0; byte = 0; remaining = 0 }))
+unfolding reader check checkPackets badType badStatus badCount badGroup badId statusNumber first statusFor payload payloadAt sizeOf octets joined
+cursor-refused κs a x s w p = differ (λ (r : CursorAnswer). r .refusal) tt (rw (w .0, w .1, w .2) at p)
+
+-- a byte that stands there is no end
+read-ended : ShutOut 1 next-kinds.ps next-kinds.r next.Post
+    (λ κs a x s. (a .0 .now ≡ message2) × (a .1 .0 ≡ 0) × (a .1 .1 .0 ≡ 1) × (a .1 .1 .1 .0 ≡ 1)
+    × (x ≡ record { ended = true; value = 0; packet = 0; byte = 1; remaining = 1 }))
+unfolding nth unread places walk row sizeOf octets payloadAt
+read-ended κs a x s w p = differ (λ (r : ReadAnswer). cond (r .ended) 1 0) tt (rw (w .0, w .1, w .2, w .3, w .4) at p)
+
+-- the end is no byte
+read-on : ShutOut 1 next-kinds.ps next-kinds.r next.Post
+    (λ κs a x s. (a .0 .now ≡ message2) × (a .1 .0 ≡ 0) × (a .1 .1 .0 ≡ 1) × (a .1 .1 .1 .0 ≡ 0)
+    × (x ≡ record { ended = false; value = 0x42; packet = 0; byte = 1; remaining = 0 }))
+unfolding nth unread places walk row sizeOf octets payloadAt
+read-on κs a x s w p = differ (λ (r : ReadAnswer). cond (r .ended) 1 0) tt (rw (w .0, w .1, w .2, w .3, w .4) at p)

@@ -1,0 +1,12 @@
+-- `latchbeacon::fields::latchbeacon_set_nibble`: what the wrapped call promises. Assumes nothing.
+use borrow.Author.Needs.{needs}
+use Rattle.latchbeacon.specs.Answers.{numberAnswer}
+use Rattle.latchbeacon.proofs.Laws.{told}
+use Rattle.latchbeacon.proofs.fields.latchbeacon_set_nibble.Statement.{statement}
+use Rattle.latchbeacon.proofs.fields.latchbeacon_set_nibble.Tie as tie
+
+returns : tie.Need-returns
+returns c = told numberAnswer (c .field-set .ensures) (c .before .set-nibble .ensures)
+
+pub latchbeacon-set-nibble-spec : {M : Type 1} → statement M
+latchbeacon-set-nibble-spec = tie.close (tie.spec (λ c κs. search needs) (λ c κs. search needs) returns)

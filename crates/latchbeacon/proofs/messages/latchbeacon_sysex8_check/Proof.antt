@@ -1,0 +1,12 @@
+-- `latchbeacon::messages::latchbeacon_sysex8_check`: what the wrapped call promises. Assumes nothing.
+use borrow.Author.Needs.{needs}
+use Rattle.latchbeacon.specs.Answers.{messageAnswer}
+use Rattle.latchbeacon.proofs.Laws.{told}
+use Rattle.latchbeacon.proofs.messages.latchbeacon_sysex8_check.Statement.{statement}
+use Rattle.latchbeacon.proofs.messages.latchbeacon_sysex8_check.Tie as tie
+
+returns : tie.Need-returns
+returns c = told messageAnswer (c .message8 .ensures) (c .before .check .ensures)
+
+pub latchbeacon-sysex8-check-spec : {M : Type 1} → statement M
+latchbeacon-sysex8-check-spec = tie.close (tie.spec (λ c κs. search needs) (λ c κs. search needs) returns)

@@ -1,0 +1,2 @@
+-- The structs that the exported calls answer.
+pub mod Answers

@@ -1,0 +1,65 @@
+// The exported calls that write a message in fewest-packet form.
+ghost use mathlib.Core.Path.{_≡_};
+ghost use Rattle.ump.specs.Packet.{sysex8};
+ghost use Rattle.ump.specs.Packing.{wordsFor};
+ghost use Rattle.ump.specs.Splice.{repack, splice, setPayload};
+ghost use Rattle.ump.specs.Edits.{spliceAll};
+ghost use Rattle.latchbeacon.specs.Answers.{numberAnswer, changeAnswer, leaving};
+use crate::answers::ChangeAnswer;
+use crate::answers::NumberAnswer;
+
+// The words that the fewest-packet form of a payload of `size` bytes takes.
+#[no_mangle]
+pub extern "C" fn latchbeacon_sysex8_words_needed(size: usize) -> usize
+    ensures { λ r. ⌜ r ≡ wordsFor sysex8 size ⌝ }
+{
+    splice::sysex8::words_needed(size)
+}
+
+// Rewrites the message in fewest-packet form and answers its new length; the check's refusals, then Spread, Room.
+#[no_mangle]
+pub extern "C" fn latchbeacon_sysex8_repack(words: &mut [u32], length: usize) -> NumberAnswer
+    ensures { λ r. ⌜ (r, now (words .exit)) ≡ leaving numberAnswer (repack sysex8 (now (words .entry)) length) ⌝ }
+{
+    crate::answers::repacked(splice::sysex8::repack(words, length))
+}
+
+// Replaces the payload bytes `from..to` by the bytes lent; the check's refusals, then Range, Spread, Room.
+#[no_mangle]
+pub extern "C" fn latchbeacon_sysex8_splice(
+    words: &mut [u32],
+    length: usize,
+    from: usize,
+    to: usize,
+    replacement: &[u8],
+) -> ChangeAnswer
+    ensures { λ r. ⌜ (r, now (words .exit)) ≡ leaving changeAnswer (splice sysex8 (now (words .entry)) length from to (now (replacement .entry))) ⌝ }
+{
+    crate::answers::change(splice::sysex8::splice(words, length, from, to, replacement))
+}
+
+// Sets the payload, a splice of the whole; the check's refusals, then Spread, Room.
+#[no_mangle]
+pub extern "C" fn latchbeacon_sysex8_set_payload(
+    words: &mut [u32],
+    length: usize,
+    bytes: &[u8],
+) -> ChangeAnswer
+    ensures { λ r. ⌜ (r, now (words .exit)) ≡ leaving changeAnswer (setPayload sysex8 (now (words .entry)) length (now (bytes .entry))) ⌝ }
+{
+    crate::answers::change(splice::sysex8::set_payload(words, length, bytes))
+}
+
+// Replaces all ranges of a list of edits at once: three numbers for each, from, to and replacement length, and all replacement bytes
+// end to end; the check's refusals, then Range, Overlap, Room.
+#[no_mangle]
+pub extern "C" fn latchbeacon_sysex8_splice_all(
+    words: &mut [u32],
+    length: usize,
+    numbers: &[usize],
+    bytes: &[u8],
+) -> ChangeAnswer
+    ensures { λ r. ⌜ (r, now (words .exit)) ≡ leaving changeAnswer (spliceAll sysex8 (now (words .entry)) length (now (numbers .entry)) (now (bytes .entry))) ⌝ }
+{
+    crate::answers::change(edit::splice_all(words, length, numbers, bytes))
+}

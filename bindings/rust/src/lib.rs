@@ -37,9 +37,10 @@
 //! |---|---|
 //! | `Sysex8::try_from(&words[..])` | [`View::try_from(&words[..])`](View), or [`View::check(&words, length)`](View::check) |
 //! | `Sysex8::try_from(&mut words[..])` | [`Message::try_from(&mut words[..])`](Message), or [`Message::check(&mut words, length)`](Message::check) |
-//! | `Sysex8::<Vec<u32>>::new()`, `Sysex8::<[u32; N]>::try_new()` | [`sysex8::EMPTY`] copied to a buffer, then [`Message::check(&mut buffer, 4)`](Message::check) |
+//! | `Sysex8::<Vec<u32>>::new()`, `Sysex8::<[u32; N]>::new()` | [`sysex8::EMPTY`] copied to a buffer, then [`Message::check(&mut buffer, 4)`](Message::check) |
 //! | a buffer that resizes itself | a buffer lent with room in it; [`sysex8::words_needed(size)`](sysex8::words_needed) says how much |
 //! | `message.data()` | [`message.words()`](Message::words) |
+//! | `message.packets()` | `message.words().chunks(4)`, each to be read by [`sysex8::Packet::read`] |
 //! | `message.group()`, `set_group(u4)` | [`message.group()`](Message::group), [`set_group(u8)?`](Message::set_group) |
 //! | `message.stream_id()`, `set_stream_id(id)` | [`message.stream_id()`](Message::stream_id), [`set_stream_id(id)?`](Message::set_stream_id); it writes octet 2, where midi2 writes a payload byte |
 //! | `message.payload_size()` | [`message.size()`](Message::size) |

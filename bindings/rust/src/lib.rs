@@ -87,3 +87,8 @@ pub use message::{Message, Summary, View};
 pub use packet::Kind;
 pub use payload::{Cursor, Payload};
 pub use sysex7::bytes_to_sysex7;
+
+// The example of the README runs as a doc test.
+#[cfg(doctest)]
+#[doc = include_str!("../README.md")]
+struct Readme;

@@ -42,6 +42,7 @@ fn library() -> Result<PathBuf, String> {
 
 // The static library at the path that the environment names.
 fn named(path: PathBuf) -> Result<PathBuf, String> {
+    println!("cargo:rerun-if-changed={}", path.display());
     if path.is_file() {
         return Ok(path);
     }
@@ -56,12 +57,13 @@ fn named(path: PathBuf) -> Result<PathBuf, String> {
 
 // The static library that `rt` proves and builds in the project's root, two folders up.
 fn built() -> Result<PathBuf, String> {
-    let root = env::current_dir().unwrap_or_default().join("..").join("..");
+    let folder = env::current_dir().unwrap_or_default();
+    let root = folder.ancestors().nth(2).ok_or("the bindings do not stand in the project")?;
     println!("cargo:rerun-if-env-changed=PATH");
     for source in ["crates", "crates.txt"] {
         println!("cargo:rerun-if-changed={}", root.join(source).display());
     }
-    let answer = Command::new("rt").args(["staticlib", "latchbeacon"]).current_dir(&root).output();
+    let answer = Command::new("rt").args(["staticlib", "latchbeacon"]).current_dir(root).output();
     let output = match answer {
         Ok(output) => output,
         Err(error) if error.kind() == ErrorKind::NotFound => return Err(neither()),
@@ -92,7 +94,6 @@ fn neither() -> String {
 
 // Copies the library to the folder of this build, and tells the linker of it.
 fn link(path: &Path) -> Result<(), String> {
-    println!("cargo:rerun-if-changed={}", path.display());
     let folder = PathBuf::from(env::var_os("OUT_DIR").ok_or("cargo gave no OUT_DIR")?);
     fs::copy(path, folder.join(FILE)).map_err(|error| format!("{} cannot be copied: {error}", path.display()))?;
     println!("cargo:rustc-link-search=native={}", folder.display());

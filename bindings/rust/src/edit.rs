@@ -8,6 +8,14 @@ use std::ops::Range;
 ///
 /// It has no bytes of its own. A list of edits and their bytes is what
 /// [`Message::splice_edits`](crate::Message::splice_edits) takes.
+///
+/// ```
+/// use latchbeacon::Edit;
+///
+/// let edit = Edit::new(2..7, 1);
+/// assert_eq!((edit.from, edit.to, edit.length), (2, 7, 1));
+/// assert_eq!(edit.range(), 2..7);
+/// ```
 #[derive(Clone, Copy, Debug, Default, PartialEq, Eq, Hash)]
 #[repr(C)]
 pub struct Edit {

@@ -51,13 +51,16 @@ fn refusals_of_the_check_of_sysex7() {
     assert_eq!(check(&[0x3010_0000, 0, 0x3130_0000, 0]), (11, 2));
 }
 
+// A call on a message.
+type Call = fn(&mut Message) -> Result<(), Error>;
+
 // A refused call on a message changes neither it nor the words past it.
 #[test]
 fn a_refused_call_changes_nothing() {
-    let refusals: [fn(&mut Message) -> Result<(), Error>; 9] = [
+    let refusals: [Call; 9] = [
         |message| message.set_group(16),
         |message| message.set_byte(2, 0),
-        |message| message.splice(Edit::new(2..1, 0).range(), &[]).map(drop),
+        |message| message.splice(Edit { from: 2, to: 1, length: 0 }.range(), &[]).map(drop),
         |message| message.splice(0..3, &[]).map(drop),
         |message| message.splice(..=usize::MAX, &[]).map(drop),
         |message| message.insert(3, &[1]).map(drop),

@@ -1,9 +1,9 @@
 /*
  * Checks a bank in SysEx8 packets, patches it and prints it.
  *
- * The bank has three entries of eight bytes: a number, six letters of a name, a level. Its packets came from a sender that cut them
- * short: to 10, 0, 13 and 1 bytes. The program renames the second entry by a splice. Then it takes the first entry out and puts a longer
- * one in the place of the third, at once. Last it shows that a splice that does not fit is refused, and that the bank stays as it was.
+ * The bank has three entries of eight bytes: a number, six letters of a name, a level. Its sender cut the packets short: they have
+ * 10, 0, 13 and 1 bytes. The program renames the second entry by a splice. Then it takes the first entry out and puts a longer one
+ * in the place of the third, at once. Last it shows that a splice that does not fit is refused, and that the bank stays as it was.
  */
 #include <inttypes.h>
 #include <stdbool.h>

@@ -340,8 +340,8 @@ impl<'a> Message<'a> {
 
     /// Rewrites the message in fewest-packet form and answers its new length in words.
     ///
-    /// Every packet but the last then carries 13 bytes. Words past the new end that belonged to the old message are zero; all others
-    /// past it stay.
+    /// Every packet but the last then carries 13 bytes. Words past the new end that belonged to the old message are zero; all
+    /// others past it stay.
     ///
     /// # Errors
     ///
@@ -448,8 +448,8 @@ impl<'a> Message<'a> {
 
     /// Replaces all ranges of a list at once, each by its bytes. Answers the growth of all of them.
     ///
-    /// The ranges are those of the message before the call, in ascending order, each ending no later than the next begins. The list is
-    /// copied; [`splice_edits`](Message::splice_edits) takes no memory.
+    /// The ranges are those of the message before the call, in ascending order, each ending no later than the next begins. The
+    /// list is copied; [`splice_edits`](Message::splice_edits) takes no memory.
     ///
     /// # Errors
     ///
@@ -471,8 +471,8 @@ impl<'a> Message<'a> {
         self.splice_edits(&numbers, &bytes)
     }
 
-    /// Replaces all ranges of a list of edits at once, as [`splice_all`](Message::splice_all); the bytes of each edit follow those of
-    /// the edits before it in `bytes`.
+    /// Replaces all ranges of a list of edits at once, as [`splice_all`](Message::splice_all); the bytes of each edit follow those
+    /// of the edits before it in `bytes`.
     ///
     /// # Errors
     ///
@@ -512,7 +512,7 @@ impl<'a> Message<'a> {
     // Keeps the new length and payload size of an accepted change, and answers its growth.
     fn changed(&mut self, change: ffi::Change) -> i64 {
         self.summary.words = change.length;
-        self.summary.size = self.summary.size.wrapping_add(change.growth as usize);
+        self.summary.size = self.summary.size.wrapping_add_signed(change.growth as isize);
         change.growth
     }
 }

@@ -62,8 +62,8 @@ impl<'a> Payload<'a> {
         Ok(Payload { words: words.get(..length).unwrap_or(words), cursor })
     }
 
-    /// Reads on from a cursor. It takes any words and any cursor: a packet of count 0 or 15 is empty, a byte at or past its packet's
-    /// size moves on to the next packet, and words short of a packet are ignored.
+    /// Reads on from a cursor. It takes any words and any cursor: a packet of count 0 or 15 is empty, a byte at or past its
+    /// packet's size moves on to the next packet, and words short of a packet are ignored.
     ///
     /// ```
     /// use latchbeacon::{Payload, View};

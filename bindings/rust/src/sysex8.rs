@@ -56,8 +56,8 @@ pub struct Packet {
 impl Packet {
     /// Reads the first 4 words.
     ///
-    /// An end packet whose octet 3 and words 1 to 3 are zero is an unexpected end: at count 1 the earlier data is valid, at count 15 it
-    /// is not.
+    /// An end packet whose octet 3 and words 1 to 3 are zero is an unexpected end: at count 1 the earlier data is valid, at count 15
+    /// it is not.
     ///
     /// # Errors
     ///

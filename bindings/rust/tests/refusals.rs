@@ -57,7 +57,7 @@ type Call = fn(&mut Message) -> Result<(), Error>;
 // A refused call on a message changes neither it nor the words past it.
 #[test]
 fn a_refused_call_changes_nothing() {
-    let refusals: [Call; 9] = [
+    let refusals: [Call; 10] = [
         |message| message.set_group(16),
         |message| message.set_byte(2, 0),
         |message| message.splice(Edit { from: 2, to: 1, length: 0 }.range(), &[]).map(drop),
@@ -67,8 +67,9 @@ fn a_refused_call_changes_nothing() {
         |message| message.append(&[0; 64]).map(drop),
         |message| message.splice_all(&[(1..2, &[1]), (0..1, &[])]).map(drop),
         |message| message.splice_edits(&[Edit::new(0..1, 2)], &[1]).map(drop),
+        |message| message.splice_edits(&[Edit::new(0..0, usize::MAX); 3], &[1]).map(drop),
     ];
-    let wanted = [16, 13, 13, 13, 13, 13, 14, 20, 13];
+    let wanted = [16, 13, 13, 13, 13, 13, 14, 20, 13, 13];
     for (refusal, number) in refusals.into_iter().zip(wanted) {
         let mut words = [0x5203_0741, 0x4200_0000, 0, 0, 1, 2, 3, 4];
         let before = words;

@@ -106,6 +106,9 @@ fn p10() {
     assert_eq!(kind(0x503F_0901), refused(Refusal::Count, 0));
     assert_eq!(kind(0x5032_0900), Ok((Kind::End, 1)));
     assert_eq!(kind(0x5031_0900), Ok((Kind::UnexpectedEndValid, 0)));
+    assert_eq!(kind(0x5001_0900), Ok((Kind::Complete, 0)));
+    assert_eq!(kind(0x5012_0900), Ok((Kind::Start, 1)));
+    assert_eq!(kind(0x502E_0900), Ok((Kind::Continue, 13)));
     assert_eq!(sysex8::Packet::read(&[0x5032_0900, 0, 0, 0]).unwrap().byte(0), Ok(0));
 }
 
@@ -139,6 +142,7 @@ fn p12() {
 fn words_for_payloads() {
     assert_eq!([0, 13, 14, 26, 27].map(sysex8::words_needed), [4, 4, 8, 8, 12]);
     assert_eq!(sysex8::words_needed(53_248), 16_384);
+    assert_eq!(sysex8::words_needed(usize::MAX), usize::MAX.div_ceil(13) * 4);
     let mut words = vec![0; 16_384];
     words[..4].copy_from_slice(&sysex8::EMPTY);
     let mut message = Message::check(&mut words, 4).unwrap();

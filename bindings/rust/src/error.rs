@@ -1,0 +1,167 @@
+//! What a call answers when it refuses.
+
+use std::fmt;
+
+/// Why a call refuses: the refusals of the library by name.
+///
+/// Refusals that are added later have numbers from 21.
+///
+/// ```
+/// use latchbeacon::Refusal;
+///
+/// assert_eq!(Refusal::Range.number(), 13);
+/// assert_eq!(Refusal::Range.name(), "Range");
+/// assert_eq!(Refusal::from_number(13), Refusal::Range);
+/// ```
+#[derive(Clone, Copy, Debug, PartialEq, Eq, Hash)]
+#[non_exhaustive]
+pub enum Refusal {
+    /// 1: more than 16,384 words lent.
+    Long,
+    /// 2: message length above the words lent.
+    Length,
+    /// 3: under 4 words (SysEx7: 2).
+    Short,
+    /// 4: not whole packets.
+    Ragged,
+    /// 5: a packet of another type.
+    Type,
+    /// 6: one packet, status not 0.
+    Complete,
+    /// 7: several packets, first not 1.
+    Begin,
+    /// 8: an inner packet not 2.
+    Continue,
+    /// 9: last of several not 3.
+    End,
+    /// 10: a count that is, for SysEx8, 0 or 15, for SysEx7 over 6.
+    Count,
+    /// 11: the group differs from the first packet's.
+    Group,
+    /// 12: the SysEx8 stream id differs from the first packet's.
+    Stream,
+    /// 13: from above to, or to above the payload size; byte index not below it; a number within an edit above 53,248.
+    Range,
+    /// 14: words needed exceed words lent for output (payload out: bytes).
+    Room,
+    /// 15: single packet, status over 3.
+    Status,
+    /// 16: field index, or value for a field, too big.
+    Field,
+    /// 17: stream under 2 bytes, first not F0 or last not F7.
+    Frame,
+    /// 18: a byte of 80 hex or more between them.
+    Byte,
+    /// 19: packing would need more words than the message has. No message calls for it.
+    Spread,
+    /// 20: edits not in the stated order.
+    Overlap,
+    /// Any other number: a refusal that a later library has and these bindings do not know.
+    Unknown(u8),
+}
+
+// Names and meanings; the refusal of number n is entry n - 1.
+const TABLE: [(Refusal, &str, &str); 20] = [
+    (Refusal::Long, "Long", "more than 16,384 words lent"),
+    (Refusal::Length, "Length", "message length above the words lent"),
+    (Refusal::Short, "Short", "under 4 words (SysEx7: 2)"),
+    (Refusal::Ragged, "Ragged", "not whole packets"),
+    (Refusal::Type, "Type", "a packet of another type"),
+    (Refusal::Complete, "Complete", "one packet, its status not 0 (complete)"),
+    (Refusal::Begin, "Begin", "several packets, status of the first not 1 (start)"),
+    (Refusal::Continue, "Continue", "status of an inner packet not 2 (continue)"),
+    (Refusal::End, "End", "status of the last of several packets not 3 (end)"),
+    (Refusal::Count, "Count", "packet count of SysEx8 0 or 15, of SysEx7 over 6"),
+    (Refusal::Group, "Group", "group differs from the first packet's"),
+    (Refusal::Stream, "Stream", "SysEx8 stream id differs from the first packet's"),
+    (
+        Refusal::Range,
+        "Range",
+        "from above to, or to above the payload size; byte index not below it; a number within an edit above 53,248",
+    ),
+    (Refusal::Room, "Room", "words needed exceed words lent for output (payload out: bytes)"),
+    (Refusal::Status, "Status", "single packet, status over 3"),
+    (Refusal::Field, "Field", "field index, or value for a field, too big"),
+    (Refusal::Frame, "Frame", "stream under 2 bytes, first not F0 or last not F7"),
+    (Refusal::Byte, "Byte", "a byte of 80 hex or more between F0 and F7"),
+    (Refusal::Spread, "Spread", "packing would need more words than the message has"),
+    (Refusal::Overlap, "Overlap", "edits not in the stated order"),
+];
+
+impl Refusal {
+    /// Every refusal that has a name, in the order of the numbers, which are 1 to 20.
+    pub fn all() -> impl ExactSizeIterator<Item = Refusal> {
+        TABLE.iter().map(|entry| entry.0)
+    }
+
+    /// The refusal of a number.
+    pub fn from_number(number: u8) -> Refusal {
+        let entry = usize::from(number).checked_sub(1).and_then(|index| TABLE.get(index));
+        entry.map_or(Refusal::Unknown(number), |entry| entry.0)
+    }
+
+    /// Its number.
+    pub fn number(self) -> u8 {
+        match self {
+            Refusal::Unknown(number) => number,
+            named => TABLE.iter().zip(1..).find(|(entry, _)| entry.0 == named).map_or(0, |found| found.1),
+        }
+    }
+
+    /// Its name.
+    pub fn name(self) -> &'static str {
+        TABLE.iter().find(|entry| entry.0 == self).map_or("Unknown", |entry| entry.1)
+    }
+
+    /// When it is given, in a few words.
+    pub fn meaning(self) -> &'static str {
+        let unknown = "a refusal that these bindings do not know";
+        TABLE.iter().find(|entry| entry.0 == self).map_or(unknown, |entry| entry.2)
+    }
+}
+
+/// A call that was refused: why, and where. Nothing that was lent to it has changed.
+///
+/// ```
+/// use latchbeacon::{Message, Refusal};
+///
+/// // A start packet, then an end packet of another group.
+/// let mut words = [0x5011_0900, 0, 0, 0, 0x5131_0900, 0, 0, 0];
+/// let error = Message::check(&mut words, 8).unwrap_err();
+/// assert_eq!((error.refusal, error.place), (Refusal::Group, 4));
+/// assert_eq!(error.to_string(), "refusal 11 (Group) at word 4: group differs from the first packet's");
+/// ```
+#[derive(Clone, Copy, Debug, PartialEq, Eq, Hash)]
+pub struct Error {
+    /// Why the call refuses.
+    pub refusal: Refusal,
+    /// Where: the word index of the first packet at fault for refusals 5 to 12, the index of the first such byte for 18, else 0.
+    pub place: usize,
+}
+
+impl Error {
+    /// The number of the refusal.
+    pub fn number(&self) -> u8 {
+        self.refusal.number()
+    }
+
+    /// The name of the refusal.
+    pub fn name(&self) -> &'static str {
+        self.refusal.name()
+    }
+}
+
+impl fmt::Display for Error {
+    // Number, name, place and meaning, on one line.
+    fn fmt(&self, formatter: &mut fmt::Formatter<'_>) -> fmt::Result {
+        let unit = match self.number() {
+            5..=12 => "word ",
+            18 => "byte ",
+            _ => "",
+        };
+        let (number, name, meaning) = (self.number(), self.name(), self.refusal.meaning());
+        write!(formatter, "refusal {number} ({name}) at {unit}{}: {meaning}", self.place)
+    }
+}
+
+impl std::error::Error for Error {}

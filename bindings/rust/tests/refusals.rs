@@ -1,0 +1,158 @@
+//! Every refusal that a call can give, with its number, name and place; and that nothing is changed by it.
+
+use latchbeacon::{bytes_to_sysex7, fields, move_edit, sysex7, sysex8, Edit, Error, Message, Refusal, View};
+
+const START: u32 = 0x5011_0900;
+const CONTINUE: u32 = 0x5021_0900;
+const END: u32 = 0x5031_0900;
+
+// A message of packets with these first words.
+fn packets(firsts: &[u32]) -> Vec<u32> {
+    firsts.iter().flat_map(|first| [*first, 0, 0, 0]).collect()
+}
+
+// Number and place of the refusal of a check.
+fn check(words: &[u32], length: usize) -> (u8, usize) {
+    let error = View::check(words, length).unwrap_err();
+    let mut copy = words.to_vec();
+    assert_eq!(Message::check(&mut copy, length).unwrap_err(), error);
+    assert_eq!(latchbeacon::Payload::open(words, length).unwrap_err(), error);
+    assert_eq!(copy, words);
+    (error.number(), error.place)
+}
+
+// The check's refusals, 1 to 12.
+#[test]
+fn refusals_of_the_check() {
+    assert_eq!(check(&[0; 16_385], 4), (1, 0));
+    assert_eq!(check(&sysex8::EMPTY, 5), (2, 0));
+    assert_eq!(check(&sysex8::EMPTY, usize::MAX), (2, 0));
+    assert_eq!(check(&[], 0), (3, 0));
+    assert_eq!(check(&sysex8::EMPTY, 3), (3, 0));
+    assert_eq!(check(&packets(&[START, END]), 6), (4, 0));
+    assert_eq!(check(&packets(&[START, 0x4031_0900]), 8), (5, 4));
+    assert_eq!(check(&packets(&[START]), 4), (6, 0));
+    assert_eq!(check(&packets(&[CONTINUE, END]), 8), (7, 0));
+    assert_eq!(check(&packets(&[START, END, END]), 12), (8, 4));
+    assert_eq!(check(&packets(&[START, CONTINUE]), 8), (9, 4));
+    assert_eq!(check(&packets(&[START, CONTINUE, 0x503F_0900]), 12), (10, 8));
+    assert_eq!(check(&packets(&[START, 0x5121_0900, END]), 12), (11, 4));
+    assert_eq!(check(&packets(&[START, CONTINUE, 0x5031_0800]), 12), (12, 8));
+}
+
+// The check's refusals of SysEx7.
+#[test]
+fn refusals_of_the_check_of_sysex7() {
+    let check = |words: &[u32]| sysex7::check(words, words.len()).map_err(|error| (error.number(), error.place)).unwrap_err();
+    assert_eq!(check(&[0x3000_0000]), (3, 0));
+    assert_eq!(check(&[0x3010_0000, 0, 0x3030_0000]), (4, 0));
+    assert_eq!(check(&[0x3010_0000, 0, 0x5030_0000, 0]), (5, 2));
+    assert_eq!(check(&[0x3010_0000, 0, 0x3037_0000, 0]), (10, 2));
+    assert_eq!(check(&[0x3010_0000, 0, 0x3130_0000, 0]), (11, 2));
+}
+
+// A call on a message.
+type Call = fn(&mut Message) -> Result<(), Error>;
+
+// A refused call on a message changes neither it nor the words past it.
+#[test]
+fn a_refused_call_changes_nothing() {
+    let refusals: [Call; 10] = [
+        |message| message.set_group(16),
+        |message| message.set_byte(2, 0),
+        |message| message.splice(Edit { from: 2, to: 1, length: 0 }.range(), &[]).map(drop),
+        |message| message.splice(0..3, &[]).map(drop),
+        |message| message.splice(..=usize::MAX, &[]).map(drop),
+        |message| message.insert(3, &[1]).map(drop),
+        |message| message.append(&[0; 64]).map(drop),
+        |message| message.splice_all(&[(1..2, &[1]), (0..1, &[])]).map(drop),
+        |message| message.splice_edits(&[Edit::new(0..1, 2)], &[1]).map(drop),
+        |message| message.splice_edits(&[Edit::new(0..0, usize::MAX); 3], &[1]).map(drop),
+    ];
+    let wanted = [16, 13, 13, 13, 13, 13, 14, 20, 13, 13];
+    for (refusal, number) in refusals.into_iter().zip(wanted) {
+        let mut words = [0x5203_0741, 0x4200_0000, 0, 0, 1, 2, 3, 4];
+        let before = words;
+        let mut message = Message::check(&mut words, 4).unwrap();
+        let summary = message.summary();
+        let error = refusal(&mut message).unwrap_err();
+        assert_eq!((error.number(), error.place), (number, 0));
+        assert_eq!(message.summary(), summary);
+        assert_eq!(words, before);
+    }
+}
+
+// Bytes and room for a payload out.
+#[test]
+fn reads_are_refused() {
+    let words = [0x5203_0741, 0x4200_0000, 0, 0];
+    let view = View::check(&words, 4).unwrap();
+    assert_eq!(view.byte(2).unwrap_err().refusal, Refusal::Range);
+    let mut bytes = [0xFF; 1];
+    assert_eq!(view.copy_payload(&mut bytes).unwrap_err().refusal, Refusal::Room);
+    assert_eq!(bytes, [0xFF]);
+    assert_eq!(View::check(&sysex8::EMPTY, 4).unwrap().copy_payload(&mut []), Ok(0));
+}
+
+// Edits: numbers too big, reversed, out of order.
+#[test]
+fn edits_are_refused() {
+    let edit = Edit::new(3..5, 1);
+    assert_eq!(Edit::new(0..0, 53_248).growth(), Ok(53_248));
+    assert_eq!(Edit { from: 5, to: 3, length: 0 }.growth().unwrap_err().refusal, Refusal::Range);
+    assert_eq!(Edit::new(0..0, 53_249).growth().unwrap_err().refusal, Refusal::Range);
+    assert_eq!(move_edit(edit, Edit::new(0..usize::MAX, 0), true).unwrap_err().refusal, Refusal::Range);
+    assert_eq!(move_edit(edit, Edit::new(4..6, 0), true).unwrap_err().refusal, Refusal::Overlap);
+    assert_eq!(move_edit(edit, Edit::new(0..3, 9), false), Ok(Edit::new(0..3, 9)));
+}
+
+// Single packets and streams.
+#[test]
+fn packets_and_streams_are_refused() {
+    let sysex8 = |words: &[u32]| sysex8::Packet::read(words).map_err(|error| error.number()).unwrap_err();
+    assert_eq!(sysex8(&[0x5001_0000, 0, 0]), 3);
+    assert_eq!(sysex8(&[0x3001_0000, 0, 0, 0]), 5);
+    assert_eq!(sysex8(&[0x5040_0000, 0, 0, 0]), 15);
+    assert_eq!(sysex8(&[0x5000_0000, 0, 0, 0]), 10);
+    let mut packet = sysex8::Packet::read(&[0x5203_0741, 0x4200_0000, 0, 0]).unwrap();
+    assert_eq!(packet.byte(2).unwrap_err().number(), 13);
+    assert_eq!(packet.set_group(16).unwrap_err().number(), 16);
+    assert_eq!((packet.group(), packet.words()), (2, &[0x5203_0741, 0x4200_0000, 0, 0]));
+    let stream = |bytes: &[u8], group, words: &mut [u32]| bytes_to_sysex7(bytes, group, words).unwrap_err().number();
+    assert_eq!(stream(&[0xF0, 0xF7], 0, &mut [0; 16_385]), 1);
+    assert_eq!(stream(&[], 16, &mut []), 16);
+    assert_eq!(stream(&[], 0, &mut []), 17);
+    assert_eq!(stream(&[0xF0, 0xF7], 0, &mut [0]), 14);
+}
+
+// Fields: the first index past the last of each, and values that do not fit.
+#[test]
+fn fields_are_refused() {
+    let word = 0x1234_5678;
+    assert_eq!(fields::bit(word, 32).unwrap_err().number(), 16);
+    assert_eq!(fields::crumb(word, 16).unwrap_err().number(), 16);
+    assert_eq!(fields::nibble(word, 8).unwrap_err().number(), 16);
+    assert_eq!(fields::septet(word, 4).unwrap_err().number(), 16);
+    assert_eq!(fields::octet(word, 4).unwrap_err().number(), 16);
+    assert_eq!(fields::word(word, 2).unwrap_err().number(), 16);
+    assert_eq!(fields::set_bit(word, 32, true).unwrap_err().number(), 16);
+    assert_eq!(fields::set_crumb(word, 0, 4).unwrap_err().number(), 16);
+    assert_eq!(fields::set_nibble(word, 0, 16).unwrap_err().number(), 16);
+    assert_eq!(fields::set_septet(word, 0, 128).unwrap_err().number(), 16);
+    assert_eq!(fields::set_octet(word, 4, 0).unwrap_err().number(), 16);
+    assert_eq!(fields::set_word(word, usize::MAX, 0).unwrap_err().number(), 16);
+}
+
+// An error says its number, name, place and meaning; an unknown number keeps its number.
+#[test]
+fn errors_are_clear() {
+    for refusal in Refusal::all() {
+        let text = Error { refusal, place: 8 }.to_string();
+        assert!(text.starts_with(&format!("refusal {} ({}) at ", refusal.number(), refusal.name())), "{text}");
+        assert!(text.ends_with(&format!("8: {}", refusal.meaning())), "{text}");
+    }
+    let later = Error { refusal: Refusal::from_number(200), place: 0 };
+    assert_eq!(later.to_string(), "refusal 200 (Unknown) at 0: a refusal that these bindings do not know");
+    let boxed: Box<dyn std::error::Error + Send + Sync> = Box::new(later);
+    assert_eq!(boxed.to_string(), later.to_string());
+}

@@ -1,6 +1,5 @@
 // Standard input, read in pieces and replayed a line at a time.
 ghost use Prim.Native.Nat.{_≤_};
-use crate::line;
 use crate::record;
 use crate::record::Compared;
 use crate::record::Replayed;
@@ -22,7 +21,7 @@ fn fill(buffer: &mut [u8], kept: usize) -> usize {
 
 // Moves the bytes from a place up to another to the front; answers how many they are.
 fn keep(buffer: &mut [u8], from: usize, to: usize) -> usize {
-    let end = line::least(to, buffer.len());
+    let end = record::least(to, buffer.len());
     let mut source = from;
     let mut at = 0;
     while source < end {
@@ -116,7 +115,7 @@ fn replay_input(buffer: &mut [u8], counts: &mut [usize]) -> usize {
     let mut reads = 0;
     let mut kept = 0;
     while reads < READS {
-        let size = line::least(fill(buffer, kept), buffer.len());
+        let size = record::least(fill(buffer, kept), buffer.len());
         if size == kept {
             return kept;
         }

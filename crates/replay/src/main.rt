@@ -1,13 +1,6 @@
 // Recorded answers on standard input, a line each, compared with ours: the number of each group and the lines that differ.
-mod answer;
-mod fields;
 mod input;
-mod line;
-mod messages;
-mod packets;
 mod record;
-mod splices;
-mod streams;
 mod tally;
 
 // Room for the longest line and for the counts.

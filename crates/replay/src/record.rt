@@ -1,13 +1,7 @@
 // A record: what ours answers, compared with what is recorded.
-use crate::answer;
-use crate::fields;
-use crate::line;
-use crate::line::Parsed;
-use crate::line::Record;
-use crate::messages;
-use crate::packets;
-use crate::splices;
-use crate::streams;
+ghost use Prim.Native.Nat.{_≤_};
+use records::Parsed;
+use records::Record;
 
 // A record's kind, whether it is of a listed difference, and whether ours answers as recorded.
 pub(crate) struct Compared {
@@ -22,22 +16,29 @@ pub(crate) enum Replayed {
     NoRecord,
 }
 
-// What ours answers to a record: how many numbers; none to what is no record.
-fn run(
-    kind: usize,
-    words: &mut [u32],
-    bytes: &[u8],
-    numbers: &[usize],
-    answer: &mut [usize],
-) -> usize {
-    match kind {
-        0x1..=0xE => fields::replay(kind, words, numbers, answer),
-        0x10..=0x13 => packets::replay(kind, words, numbers, answer),
-        0x20..=0x24 => messages::replay(kind, words, numbers, answer),
-        0x25..=0x27 => splices::replay(kind, words, bytes, numbers, answer),
-        0x28..=0x29 => streams::replay(kind, bytes, numbers, answer),
-        _ => 0,
+// The smaller of two numbers.
+pub(crate) fn least(count: usize, most: usize) -> usize
+    ensures { λ r. ⌜ r ≤ most ⌝ }
+{
+    if count < most { count } else { most }
+}
+
+// The first `count` numbers of an answer are the ones expected.
+fn same(answer: &[usize], count: usize, expected: &[usize]) -> bool {
+    if count != expected.len() {
+        return false;
     }
+    if count > answer.len() {
+        return false;
+    }
+    let mut at = 0;
+    while at < count {
+        if answer[at] != expected[at] {
+            return false;
+        }
+        at += 1;
+    }
+    true
 }
 
 // Runs a record on the fronts of these slices that it fills, and compares.
@@ -49,10 +50,10 @@ fn compare(
     expected: &[usize],
     answer: &mut [usize],
 ) -> Replayed {
-    let word_count = line::least(record.words, words.len());
-    let byte_count = line::least(record.bytes, bytes.len());
-    let number_count = line::least(record.numbers, numbers.len());
-    let count = run(
+    let word_count = least(record.words, words.len());
+    let byte_count = least(record.bytes, bytes.len());
+    let number_count = least(record.numbers, numbers.len());
+    let count = replies::reply(
         record.kind,
         &mut words[0..word_count],
         &bytes[0..byte_count],
@@ -62,11 +63,11 @@ fn compare(
     if count == 0 {
         return Replayed::NoRecord;
     }
-    let expected_count = line::least(record.answer, expected.len());
+    let expected_count = least(record.answer, expected.len());
     Replayed::Compared(Compared {
         kind: record.kind,
         listed: record.listed,
-        same: answer::same(answer, count, &expected[0..expected_count]),
+        same: same(answer, count, &expected[0..expected_count]),
     })
 }
 
@@ -79,7 +80,7 @@ fn replay_into(
     expected: &mut [usize],
     answer: &mut [usize],
 ) -> Replayed {
-    let parsed = line::parse(line, words, bytes, numbers, expected);
+    let parsed = records::parse(line, words, bytes, numbers, expected);
     let Parsed::Record(record) = parsed else {
         return Replayed::NoRecord;
     };
@@ -88,8 +89,8 @@ fn replay_into(
 
 // Compares the record in a line; the room for our answer is one number over the longest that is recorded.
 pub(crate) fn replay(line: &[u8]) -> Replayed {
-    let mut words = [0u32; line::WORDS];
-    let mut bytes = [0u8; line::BYTES];
+    let mut words = [0u32; records::WORDS];
+    let mut bytes = [0u8; records::BYTES];
     let mut numbers = [0usize; 64];
     let mut expected = [0usize; 2048];
     let mut answer = [0usize; 2049];

@@ -1,10 +1,17 @@
-// Lines taken apart: KIND;WORDS;BYTES;NUMBERS;ANSWER, and ; and a text on the line of a listed difference. Numbers are
-// upper-case hex, those of a list one space apart.
+// Lines of recorded answers taken apart: KIND;WORDS;BYTES;NUMBERS;ANSWER, and ; with a text on the line of a listed difference.
+// Numbers are upper-case hex, those of a list one space apart; an empty field is an empty list.
 
-// The most words and bytes of a record.
+// The most words of a record.
 pub const WORDS: usize = 512;
 
+// The most bytes of a record.
 pub const BYTES: usize = 1024;
+
+// The most numbers of a record.
+pub const NUMBERS: usize = 64;
+
+// The most numbers of a recorded answer.
+pub const ANSWER: usize = 2048;
 
 // A number, and the place behind it.
 struct Number {

@@ -9,7 +9,8 @@ use libc::STDIN_FILENO;
 // The most reads: an input of so many bytes ends even where each read brings one.
 const READS: usize = 4_194_304;
 
-// Reads once into the buffer behind what it keeps; answers how many bytes it then holds, as many as before at the input's end.
+// Reads once into the buffer behind what it keeps; answers how many bytes it then holds: as many as before at the input's end,
+// and where the read fails or the buffer is full.
 fn fill(buffer: &mut [u8], kept: usize) -> usize {
     if kept >= buffer.len() {
         return kept;

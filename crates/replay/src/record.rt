@@ -3,6 +3,9 @@ ghost use Prim.Native.Nat.{_≤_};
 use records::Parsed;
 use records::Record;
 
+// Room for our answer: one number over the longest that is recorded, so that one that fills it differs.
+const ROOM: usize = records::ANSWER + 1;
+
 // A record's kind, whether it is of a listed difference, and whether ours answers as recorded.
 pub(crate) struct Compared {
     pub(crate) kind: usize,
@@ -87,13 +90,13 @@ fn replay_into(
     compare(record, words, bytes, numbers, expected, answer)
 }
 
-// Compares the record in a line; the room for our answer is one number over the longest that is recorded.
+// Compares the record in a line.
 pub(crate) fn replay(line: &[u8]) -> Replayed {
     let mut words = [0u32; records::WORDS];
     let mut bytes = [0u8; records::BYTES];
-    let mut numbers = [0usize; 64];
-    let mut expected = [0usize; 2048];
-    let mut answer = [0usize; 2049];
+    let mut numbers = [0usize; records::NUMBERS];
+    let mut expected = [0usize; records::ANSWER];
+    let mut answer = [0usize; ROOM];
     replay_into(
         line,
         &mut words,

@@ -1,4 +1,19 @@
-// What our calls answer to the input of a record, as numbers.
+// What our calls answer to the input of a record, as numbers. A refusal is its number and place. The kinds, in hex:
+//
+//   1 to 6    read bit, crumb, nibble, septet, octet, word: index; 0, value
+//   9 to E    set them: index, value; 0, word
+//   10, 11    a SysEx8, a SysEx7 packet: 0, kind, group, id, size, payload
+//   12, 13    set its group: group; 0, words lent
+//   20        check: length; 0, group, id, size, words, payload
+//   21        reader: length, skips; 0, and for each skip the byte, or 100 at the end, and the bytes that remain
+//   22 to 24  set group, stream id, byte: length, value, of a byte length, index, value; 0, words lent
+//   25        packing: length
+//   26        splice by the bytes: length, from, to
+//   27        set the payload to the bytes: length; 25 to 27: 0, new length, three octets of each packet, payload
+//   28        the bytes to SysEx7: group, words lent; 0, words written
+//   29        words needed: size; words
+//
+// A refusal of 12, 13 and 22 to 27 is followed by the words lent.
 mod answer;
 mod fields;
 mod messages;

@@ -8,6 +8,9 @@ use reader::Opened;
 use reader::Step;
 use refusal::Stored;
 
+// The most payload bytes of 512 words.
+const PAYLOAD: usize = 1664;
+
 // Puts the payload of a message, copied to these bytes, from a place on.
 fn put_copied(
     answer: &mut [usize],
@@ -28,7 +31,7 @@ fn put_copied(
 
 // Puts the payload of a message from a place on; nothing where it is refused or of more than 512 words.
 pub(crate) fn put_payload(answer: &mut [usize], at: usize, words: &[u32], length: usize) -> usize {
-    let mut bytes = [0u8; 1664];
+    let mut bytes = [0u8; PAYLOAD];
     put_copied(answer, at, words, length, &mut bytes)
 }
 

@@ -1,0 +1,26 @@
+-- `replay::input::line_end`: the place only grows. Assumes nothing.
+use Prim.Native.Nat.{_-_, _≤_}
+use lib.ListN.{length}
+use borrow.Author.Needs.{needs}
+use Rattle.replay.proofs.input.line_end.Statement.{statement}
+use Rattle.replay.proofs.input.line_end.Tie as tie
+
+abbrev Inv-loop : tie.InvT-loop
+Inv-loop text from at₀ at = from ≤ at
+
+abbrev μ-loop : tie.MeasureT-loop
+μ-loop text from at₀ at = length text - at
+
+pub line-end-spec : {M : Type 1} → statement M
+line-end-spec =
+    tie.close
+    (tie.spec
+    Inv-loop
+    μ-loop
+    (λ c. search needs)
+    (λ c. search needs)
+    (λ c. search needs)
+    (λ c. search needs)
+    (λ c. search needs)
+    (λ c. search needs)
+    (λ c. search needs))

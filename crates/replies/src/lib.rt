@@ -1,0 +1,93 @@
+// What our calls answer to the input of a record, as numbers. A refusal is its number and place. The kinds, in hex:
+//
+//   1 to 6    read bit, crumb, nibble, septet, octet, word: index; 0, value
+//   9 to E    set them: index, value; 0, word
+//   10, 11    a SysEx8, a SysEx7 packet: 0, kind, group, id, size, payload
+//   12, 13    set its group: group; 0, words lent
+//   20        check: length; 0, group, id, size, words, payload
+//   21        reader: length, skips; 0, and for each skip the byte, or 100 at the end, and the bytes that remain
+//   22 to 24  set group, stream id, byte: length, value, of a byte length, index, value; 0, words lent
+//   25        packing: length
+//   26        splice by the bytes: length, from, to
+//   27        set the payload to the bytes: length; 25 to 27: 0, new length, three octets of each packet, payload
+//   28        the bytes to SysEx7: group, words lent; 0, words written
+//   29        words needed: size; words
+//
+// A refusal of 12, 13 and 22 to 27 is followed by the words lent.
+mod answer;
+mod fields;
+mod messages;
+mod packets;
+mod splices;
+mod streams;
+
+// Whether a record of a kind has so many numbers.
+fn takes(kind: usize, count: usize) -> bool {
+    match kind {
+        0x10..=0x11 => count == 0,
+        0x1..=0x6 | 0x12..=0x13 | 0x20 | 0x25 | 0x27 | 0x29 => count == 1,
+        0x9..=0xE | 0x22..=0x23 | 0x28 => count == 2,
+        0x24 | 0x26 => count == 3,
+        0x21 => count > 0,
+        _ => false,
+    }
+}
+
+// A number of a record; 0 where it has none.
+fn number(numbers: &[usize], index: usize) -> usize {
+    if index < numbers.len() {
+        numbers[index]
+    } else {
+        0
+    }
+}
+
+// Answers of fields and single packets.
+fn reply_small(kind: usize, words: &mut [u32], numbers: &[usize], answer: &mut [usize]) -> usize {
+    let first = number(numbers, 0);
+    match kind {
+        0x10..=0x11 => packets::read(kind == 0x11, words, answer),
+        0x12..=0x13 => packets::set(kind == 0x13, words, first, answer),
+        _ => fields::reply(kind, words, first, number(numbers, 1), answer),
+    }
+}
+
+// Answers of messages and byte streams, whose first number is a length, a group or a size.
+fn reply_large(
+    kind: usize,
+    words: &mut [u32],
+    bytes: &[u8],
+    numbers: &[usize],
+    answer: &mut [usize],
+) -> usize {
+    let first = number(numbers, 0);
+    let second = number(numbers, 1);
+    let third = number(numbers, 2);
+    match kind {
+        0x20 => messages::check(words, first, answer),
+        0x21 => messages::read(words, first, numbers, answer),
+        0x22..=0x23 => messages::set(kind, words, first, 0, second, answer),
+        0x24 => messages::set(kind, words, first, second, third, answer),
+        0x28 => streams::write(bytes, first, second, answer),
+        0x29 => streams::words_needed(first, answer),
+        _ => splices::change(kind, words, bytes, first, second, third, answer),
+    }
+}
+
+// What ours answers to a record: how many numbers; none to what is no record.
+pub fn reply(
+    kind: usize,
+    words: &mut [u32],
+    bytes: &[u8],
+    numbers: &[usize],
+    answer: &mut [usize],
+) -> usize {
+    if !takes(kind, numbers.len()) {
+        return 0;
+    }
+    if kind < 0x20 {
+        reply_small(kind, words, numbers, answer)
+    } else {
+        reply_large(kind, words, bytes, numbers, answer)
+    }
+}

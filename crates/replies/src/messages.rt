@@ -11,6 +11,9 @@ use refusal::Stored;
 // The most payload bytes of 512 words.
 const PAYLOAD: usize = 1664;
 
+// One packet more than a message may have.
+const MANY: usize = 16388;
+
 // Puts the payload of a message, copied to these bytes, from a place on.
 fn put_copied(
     answer: &mut [usize],
@@ -35,6 +38,19 @@ pub(crate) fn put_payload(answer: &mut [usize], at: usize, words: &[u32], length
     put_copied(answer, at, words, length, &mut bytes)
 }
 
+// Checks a message: group, stream id, payload size and words.
+fn check_summary(words: &[u32], answer: &mut [usize]) -> usize {
+    let checked = message::sysex8::check(words, words.len());
+    match checked {
+        Checked::Refused(fault) => answer::refuse(answer, fault),
+        Checked::Message(found) => {
+            let group = found.group as usize;
+            let id = found.id as usize;
+            answer::put_four(answer, group, id, found.size, found.words)
+        }
+    }
+}
+
 // Checks a message: group, stream id, payload size, words, and the payload.
 pub(crate) fn check(words: &[u32], length: usize, answer: &mut [usize]) -> usize {
     let checked = message::sysex8::check(words, length);
@@ -47,6 +63,46 @@ pub(crate) fn check(words: &[u32], length: usize, answer: &mut [usize]) -> usize
             put_payload(answer, next, words, length)
         }
     }
+}
+
+// A word of some; 0 where there is none.
+fn word_at(words: &[u32], index: usize) -> u32 {
+    if index < words.len() { words[index] } else { 0 }
+}
+
+// Where the word stands that comes to a place of so many packets: in the first packet, in the last, or in the inner one.
+fn source(at: usize, packets: usize) -> usize {
+    if at < 4 {
+        return at;
+    }
+    if at / 4 + 1 == packets {
+        return at % 4 + 8;
+    }
+    at % 4 + 4
+}
+
+// Lays out so many packets: the first of the words, the second for each inner one, the third.
+fn lay_out(words: &[u32], packets: usize, room: &mut [u32]) {
+    let mut at = 0;
+    while at < room.len() {
+        room[at] = word_at(words, source(at, packets));
+        at += 1;
+    }
+}
+
+// Checks a message of so many packets in this room.
+fn check_in(words: &[u32], packets: usize, room: &mut [u32], answer: &mut [usize]) -> usize {
+    if packets > room.len() / 4 {
+        return 0;
+    }
+    lay_out(words, packets, room);
+    check_summary(&room[0..4 * packets], answer)
+}
+
+// Checks a message of so many packets.
+pub(crate) fn check_many(words: &[u32], packets: usize, answer: &mut [usize]) -> usize {
+    let mut room = [0u32; MANY];
+    check_in(words, packets, &mut room, answer)
 }
 
 // What a reader read: the byte, or 100 hex where the payload has ended.

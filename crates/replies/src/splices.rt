@@ -37,8 +37,8 @@ fn run(
     to: usize,
 ) -> Changed {
     match kind {
-        0x25 => of_repacked(splice::sysex8::repack(words, length)),
-        0x26 => of_spliced(splice::sysex8::splice(words, length, from, to, bytes)),
+        0x25 | 0x35 => of_repacked(splice::sysex8::repack(words, length)),
+        0x26 | 0x36 => of_spliced(splice::sysex8::splice(words, length, from, to, bytes)),
         _ => of_spliced(splice::sysex8::set_payload(words, length, bytes)),
     }
 }
@@ -64,6 +64,12 @@ fn put_message(answer: &mut [usize], words: &[u32], length: usize) -> usize {
     messages::put_payload(answer, behind_heads, words, length)
 }
 
+// Puts a message as its length and all words lent.
+fn put_lent(answer: &mut [usize], words: &[u32], length: usize) -> usize {
+    let behind_length = answer::begin(answer, 0, length);
+    answer::put_words(answer, behind_length, words)
+}
+
 // Changes a message, and puts it, or the refusal with the words lent.
 pub(crate) fn change(
     kind: usize,
@@ -77,6 +83,12 @@ pub(crate) fn change(
     let changed = run(kind, words, bytes, length, from, to);
     match changed {
         Changed::Refused(fault) => answer::refuse_words(answer, fault, words),
-        Changed::Length(after) => put_message(answer, words, after),
+        Changed::Length(after) => {
+            if kind < 0x30 {
+                put_message(answer, words, after)
+            } else {
+                put_lent(answer, words, after)
+            }
+        }
     }
 }

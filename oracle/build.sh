@@ -69,7 +69,7 @@ oracle_build() {
     export LATCHBEACON_LIBRARY
     . tools/x86_64.sh
     x86_64_tools >"$oracle_folder/.tools" || oracle_stop "$(cat "$oracle_folder/.tools")"
-    (cd "$oracle_folder" && cargo build --offline --quiet -p compare "$@") || oracle_stop "the build failed"
+    (cd "$oracle_folder" && cargo build --offline --quiet --target-dir target -p compare "$@") || oracle_stop "the build failed"
     oracle_sums "after the build"
     case " $* " in *" --release "*) profile=release ;; esac
     oracle_program=$oracle_folder/target/${CARGO_BUILD_TARGET:+$CARGO_BUILD_TARGET/}$profile/compare

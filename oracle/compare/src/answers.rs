@@ -65,7 +65,7 @@ pub enum Kind {
 }
 
 /// The kinds as rows of the table of counts.
-pub const KIND_NAMES: [&str; 21] = [
+pub const KIND_NAMES: [&str; 22] = [
     "word field, read",
     "word field, set",
     "single SysEx8 packet",
@@ -87,7 +87,11 @@ pub const KIND_NAMES: [&str; 21] = [
     "set payload, lent words",
     "byte stream (outside the port)",
     "words needed",
+    "chained edits",
 ];
+
+/// The row of chained edits, which are of several kinds.
+pub const CHAINED: usize = 21;
 
 impl Kind {
     /// The kind's row in the table of counts.

@@ -1,7 +1,7 @@
 //! One comparison: ours with 01's rules, the original with what is expected of it, and both with each other.
 use crate::answers::{End, Input, Kind, Ours, Theirs};
 use crate::counts::{Counts, Outcome, StandIn};
-use crate::differences::{self, Place, ALL};
+use crate::differences::{self, Builds, Place, ALL};
 use crate::expect::{expected, text, Expected};
 use crate::{model, original, port};
 
@@ -83,11 +83,20 @@ fn only_words(index: usize) -> bool {
     ALL[index].place == Place::NotCompared && ALL[index].name != "D17"
 }
 
-/// The differences whose test holds for an input.
+/// The differences whose test holds for an input, in the build that this program has.
 pub fn held(input: &Input) -> Vec<usize> {
+    let in_build =
+        |index: &usize| cfg!(debug_assertions) || ALL[*index].builds != Builds::DebugOnly;
     (0..ALL.len())
+        .filter(in_build)
         .filter(|&index| (ALL[index].shows)(input))
         .collect()
+}
+
+/// Whether an answer is a panic of the debug build that an entry tells of.
+fn debug_panic(input: &Input, theirs: &Theirs) -> bool {
+    let told = |index: usize| ALL[index].builds != Builds::Both;
+    cfg!(debug_assertions) && theirs.end == End::Panicked && held(input).into_iter().any(told)
 }
 
 /// An input and its answers, for a report.
@@ -128,7 +137,7 @@ pub fn against_rules(input: &Input) -> Result<Ours, String> {
 pub fn as_expected(input: &Input, ours: &Ours) -> Result<Theirs, String> {
     let theirs = original::answer(input);
     let expected = expected(input, ours);
-    if !expected.holds(&theirs) {
+    if !expected.holds(&theirs) && !debug_panic(input, &theirs) {
         let wanted = match &expected {
             Expected::Exactly(answer) => format!("{answer:X?}"),
             Expected::Beginning(values) => format!("beginning with {values:X?}"),
@@ -147,6 +156,23 @@ pub fn as_expected(input: &Input, ours: &Ours) -> Result<Theirs, String> {
     Ok(theirs)
 }
 
+/// Counts the differences whose test held, and those that differed; answers whether answers may differ, and
+/// whether words that are not compared may.
+fn count_held(input: &Input, same: bool, same_words: bool, counts: &mut Counts) -> (bool, bool) {
+    let held = held(input);
+    for &index in &held {
+        let differs = if only_words(index) {
+            !same_words
+        } else {
+            !same
+        };
+        counts.held[index] += 1;
+        counts.differed[index] += u64::from(differs);
+    }
+    let listed = held.iter().any(|&index| !only_words(index));
+    (listed, !held.is_empty())
+}
+
 /// Compares one input and counts it. An error is a fault of the run.
 pub fn compare(input: &Input, counts: &mut Counts) -> Result<(), String> {
     let ours = against_rules(input)?;
@@ -156,22 +182,9 @@ pub fn compare(input: &Input, counts: &mut Counts) -> Result<(), String> {
         return Ok(());
     }
     let theirs = as_expected(input, &ours)?;
-    let (same, same_words) = (
-        alike(input, &ours, &theirs),
-        words_alike(input, &ours, &theirs),
-    );
-    let held = held(input);
-    for &index in &held {
-        counts.held[index] += 1;
-        let differs = if only_words(index) {
-            !same_words
-        } else {
-            !same
-        };
-        counts.differed[index] += u64::from(differs);
-    }
-    let listed = held.iter().any(|&index| !only_words(index));
-    let words_listed = listed || held.iter().any(|&index| only_words(index));
+    let same = alike(input, &ours, &theirs);
+    let same_words = !same || words_alike(input, &ours, &theirs);
+    let (listed, words_listed) = count_held(input, same, same_words, counts);
     if !same && !listed || !same_words && !words_listed {
         let parts = [
             ("ours", format!("{ours:X?}")),

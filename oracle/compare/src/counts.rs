@@ -1,6 +1,6 @@
 //! What was compared, how often.
 use crate::answers::KIND_NAMES;
-use crate::differences::{Place, ALL};
+use crate::differences::{Builds, Place, ALL};
 
 /// The stand-ins that a comparison can rest on.
 #[derive(Clone, Copy, PartialEq, Eq)]
@@ -39,12 +39,9 @@ pub enum Outcome {
 /// All counts of a run.
 pub struct Counts {
     pub kinds: [[u64; 5]; KIND_NAMES.len()],
-    pub stand_ins: [[u64; 5]; STAND_IN_NAMES.len()],
+    pub stand_ins: [[[u64; 5]; KIND_NAMES.len()]; STAND_IN_NAMES.len()],
     pub held: [u64; ALL.len()],
     pub differed: [u64; ALL.len()],
-    pub chains: u64,
-    pub chain_steps: u64,
-    pub chain_differed: u64,
 }
 
 impl Counts {
@@ -52,47 +49,85 @@ impl Counts {
     pub fn new() -> Counts {
         Counts {
             kinds: [[0; 5]; KIND_NAMES.len()],
-            stand_ins: [[0; 5]; STAND_IN_NAMES.len()],
+            stand_ins: [[[0; 5]; KIND_NAMES.len()]; STAND_IN_NAMES.len()],
             held: [0; ALL.len()],
             differed: [0; ALL.len()],
-            chains: 0,
-            chain_steps: 0,
-            chain_differed: 0,
         }
     }
 
     /// Notes one comparison.
     pub fn note(&mut self, row: usize, rests_on: Option<StandIn>, outcome: Outcome) {
         match rests_on {
-            Some(stand_in) => self.stand_ins[stand_in as usize][outcome as usize] += 1,
+            Some(stand_in) => self.stand_ins[stand_in as usize][row][outcome as usize] += 1,
             None => self.kinds[row][outcome as usize] += 1,
         }
     }
 
     /// The sum of a table without its last column.
     fn compared(table: &[[u64; 5]]) -> u64 {
-        table.iter().map(|row| row[..4].iter().sum::<u64>()).sum()
+        let row = |row: &[u64; 5]| row[..4].iter().sum::<u64>();
+        table.iter().map(row).sum()
     }
 
-    /// Comparisons with the original, those on stand-ins and in chains too.
+    /// Comparisons that rest on the original's own text.
+    fn on_text(&self) -> u64 {
+        Counts::compared(&self.kinds)
+    }
+
+    /// Comparisons that rest on a stand-in.
+    fn on_stand_ins(&self) -> u64 {
+        self.stand_ins
+            .iter()
+            .map(|table| Counts::compared(table))
+            .sum()
+    }
+
+    /// All comparisons with the original.
     pub fn total(&self) -> u64 {
-        Counts::compared(&self.kinds) + Counts::compared(&self.stand_ins) + self.chain_steps
+        self.on_text() + self.on_stand_ins()
     }
 
-    /// Prints one table of outcomes.
-    fn print_outcomes(title: &str, names: &[&str], table: &[[u64; 5]]) {
+    /// Prints the head of a table of outcomes.
+    fn print_head(title: &str) {
         println!("{title}");
-        println!(
-            "{:42}{:>10}{:>10}{:>10}{:>10}{:>10}",
-            "", "equal", "listed", "refused", "refused", "ours"
+        for cells in [
+            ["equal", "listed", "refused", "refused", "ours"],
+            ["", "", "alike", "listed", "alone"],
+        ] {
+            let cells: String = cells.iter().map(|cell| format!("{cell:>10}")).collect();
+            println!("{:42}{cells}", "");
+        }
+    }
+
+    /// Prints a row of a table of outcomes.
+    fn print_row(name: &str, row: &[u64; 5]) {
+        let cells: String = row.iter().map(|count| format!("{count:>10}")).collect();
+        println!("{name:42}{cells}");
+    }
+
+    /// Prints the comparisons with the original's own text.
+    fn print_kinds(&self) {
+        Counts::print_head("Compared with the original's own text (inside the domain: equal, listed; outside: refused)");
+        for (name, row) in KIND_NAMES.iter().zip(&self.kinds) {
+            Counts::print_row(name, row);
+        }
+        println!();
+    }
+
+    /// Prints the comparisons that rest on stand-ins, by kind where there are several.
+    fn print_stand_ins(&self) {
+        Counts::print_head(
+            "Apart: comparisons that rest on a stand-in, not called equality with the Rust",
         );
-        println!(
-            "{:42}{:>10}{:>10}{:>10}{:>10}{:>10}",
-            "", "", "", "alike", "listed", "alone"
-        );
-        for (name, row) in names.iter().zip(table) {
-            let cells: String = row.iter().map(|count| format!("{count:>10}")).collect();
-            println!("{name:42}{cells}");
+        for (stand_in, table) in STAND_IN_NAMES.iter().zip(&self.stand_ins) {
+            println!("{stand_in}");
+            for (name, row) in KIND_NAMES
+                .iter()
+                .zip(table)
+                .filter(|(_, row)| **row != [0; 5])
+            {
+                Counts::print_row(&format!("  {name}"), row);
+            }
         }
         println!();
     }
@@ -102,6 +137,9 @@ impl Counts {
         println!("Differences of docs/DIFFERENCES.md: inputs for which the test held, and those that differed");
         println!("{:60}{:>14}{:>10}{:>10}", "", "", "held", "differed");
         for (index, difference) in ALL.iter().enumerate() {
+            if difference.builds == Builds::DebugOnly && !cfg!(debug_assertions) {
+                continue;
+            }
             let place = match difference.place {
                 Place::Inside => "inside",
                 Place::Outside => "outside",
@@ -118,20 +156,14 @@ impl Counts {
 
     /// Prints all tables.
     pub fn print(&self) {
-        Counts::print_outcomes(
-            "Compared with the original's own text (inside the domain: equal, listed; outside: refused)",
-            &KIND_NAMES,
-            &self.kinds,
-        );
-        Counts::print_outcomes(
-            "Apart: comparisons that rest on a stand-in, no equality with the Rust",
-            &STAND_IN_NAMES,
-            &self.stand_ins,
-        );
+        self.print_kinds();
+        self.print_stand_ins();
         self.print_differences();
         println!(
-            "Chained edits: {} chains, {} steps, {} of them a listed difference",
-            self.chains, self.chain_steps, self.chain_differed
+            "{} comparisons: {} with the original's own text, {} on stand-ins; all as docs/DIFFERENCES.md says",
+            self.total(),
+            self.on_text(),
+            self.on_stand_ins()
         );
     }
 }

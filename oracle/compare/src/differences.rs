@@ -14,11 +14,23 @@ pub enum Place {
     NotCompared,
 }
 
+/// The builds of the original in which a difference shows.
+#[derive(Clone, Copy, PartialEq, Eq)]
+pub enum Builds {
+    /// Both answer alike.
+    Both,
+    /// The debug build panics, now or later in the same call.
+    Unlike,
+    /// Only the debug build differs: it panics.
+    DebugOnly,
+}
+
 /// One difference.
 pub struct Difference {
     pub name: &'static str,
     pub title: &'static str,
     pub place: Place,
+    pub builds: Builds,
     pub shows: fn(&Input) -> bool,
 }
 
@@ -27,115 +39,64 @@ const fn row(
     name: &'static str,
     title: &'static str,
     place: Place,
+    builds: Builds,
     shows: fn(&Input) -> bool,
 ) -> Difference {
     Difference {
         name,
         title,
         place,
+        builds,
         shows,
     }
 }
 
+use Builds::{Both, DebugOnly, Unlike};
 use Place::{Inside, NotCompared, Outside};
 
-/// Every difference that can show in the release build, but for those that only a query can ask (D23, D24).
-pub const ALL: [Difference; 35] = [
-    row("D1", "stream id goes to octet 3", Inside, d1),
-    row(
-        "D2a",
-        "packets gained have no id (growing buffer)",
-        Inside,
-        d2a,
-    ),
-    row(
-        "D2b",
-        "packets gained keep the id that stood there",
-        Inside,
-        d2b,
-    ),
-    row(
-        "D3",
-        "unused octets of a complete packet stay",
-        NotCompared,
-        d3,
-    ),
-    row("D4", "packing leaves an empty end packet", Inside, d4),
-    row(
-        "D5",
-        "a splice without room empties the message",
-        Outside,
-        d5,
-    ),
-    row("D6a", "a cut-off last packet is taken", Outside, d6a),
-    row(
-        "D6b",
-        "cut-off words of another type are passed over",
-        Outside,
-        d6b,
-    ),
-    row(
-        "D6c",
-        "a packet of another type ends the message",
-        Outside,
-        d6c,
-    ),
-    row(
-        "D6d",
-        "a packet of another type gives another refusal",
-        Outside,
-        d6d,
-    ),
-    row(
-        "D6e",
-        "counts of packets of another type are checked",
-        Outside,
-        d6e,
-    ),
-    row("D6f", "ragged words give another refusal", Outside, d6f),
-    row("D7a", "nth of a packet does not pass its byte", Inside, d7a),
-    row("D7b", "nth of a message panics after the end", Inside, d7b),
-    row("D8a", "count 0 in a single packet", Outside, d8a),
-    row("D8b", "count 15 in a single packet", Outside, d8b),
-    row("D8c", "byte index out of range", Outside, d8c),
-    row("D8d", "reversed range", Outside, d8d),
-    row("D10", "setting the payload loses the id", Inside, d10),
-    row("D11", "payload of an unexpected end", Inside, d11),
-    row("D12", "bytes remaining after nth past the end", Inside, d12),
-    row("D13", "nth with a number that overflows", Inside, d13),
-    row(
-        "D14",
-        "packing of a full form leaves unused octets",
-        NotCompared,
-        d14,
-    ),
-    row("D15", "range past the payload", Outside, d15),
-    row("D16", "nth reads on past the message", Inside, d16),
-    row(
-        "D17",
-        "group and id setters go on past the message",
-        NotCompared,
-        d17,
-    ),
-    row("D18", "a byte is set past the message", Outside, d18),
-    row("D19", "words of the old message stay", NotCompared, d19),
-    row("D20", "no limit of 16,384 words", Outside, d20),
-    row("D21", "field index too big", Outside, d21),
-    row("D22", "field value or group too big", Outside, d22),
-    row("S1", "SysEx7 message: D6 again", Outside, s1),
-    row("S3", "byte stream: a byte above 7F panics", Outside, s3),
-    row(
-        "S4",
-        "byte stream: what follows the first F7 is passed over",
-        Outside,
-        s4,
-    ),
-    row(
-        "S5",
-        "byte stream: a frame that is none, other words",
-        Outside,
-        s5,
-    ),
+/// The differences that only a query asks for: a payload that no memory holds, and an iterator without a size.
+pub const ONLY_QUERIES: [&str; 2] = ["D23", "D24"];
+
+/// Every other difference.
+#[rustfmt::skip]
+pub const ALL: [Difference; 37] = [
+    row("D1", "stream id goes to octet 3", Inside, Both, d1),
+    row("D2a", "packets gained have no id (growing buffer)", Inside, Both, d2a),
+    row("D2b", "packets gained keep the id that stood there", Inside, Both, d2b),
+    row("D3", "unused octets of a complete packet stay", NotCompared, Both, d3),
+    row("D4", "packing leaves an empty end packet", Inside, Both, d4),
+    row("D5", "a splice without room empties the message", Outside, Both, d5),
+    row("D6a", "a cut-off last packet is taken", Outside, Both, d6a),
+    row("D6b", "cut-off words of another type are passed over", Outside, Both, d6b),
+    row("D6c", "a packet of another type ends the message", Outside, Both, d6c),
+    row("D6d", "a packet of another type gives another refusal", Outside, Both, d6d),
+    row("D6e", "counts of packets of another type are checked", Outside, Both, d6e),
+    row("D6f", "ragged words give another refusal", Outside, Both, d6f),
+    row("D7a", "nth of a packet does not pass its byte", Inside, Both, d7a),
+    row("D7b", "nth of a message panics after the end", Inside, Both, d7b),
+    row("D8a", "count 0 in a single packet", Outside, Unlike, d8a),
+    row("D8b", "count 15 in a single packet", Outside, Unlike, d8b),
+    row("D8c", "byte index out of range", Outside, Both, d8c),
+    row("D8d", "reversed range", Outside, Unlike, d8d),
+    row("D9a", "splice panics after an uneven packing (growing)", Inside, DebugOnly, d9a),
+    row("D9b", "the same on lent words", Inside, DebugOnly, d9b),
+    row("D10", "setting the payload loses the id", Inside, Both, d10),
+    row("D11", "payload of an unexpected end", Inside, Unlike, d11),
+    row("D12", "bytes remaining after nth past the end", Inside, Unlike, d12),
+    row("D13", "nth with a number that overflows", Inside, Unlike, d13),
+    row("D14", "packing of a full form leaves unused octets", NotCompared, Both, d14),
+    row("D15", "range past the payload", Outside, Unlike, d15),
+    row("D16", "nth reads on past the message", Inside, Unlike, d16),
+    row("D17", "group and id setters go on past the message", NotCompared, Both, d17),
+    row("D18", "a byte is set past the message", Outside, Unlike, d18),
+    row("D19", "words of the old message stay", NotCompared, Both, d19),
+    row("D20", "no limit of 16,384 words", Outside, Both, d20),
+    row("D21", "field index too big", Outside, Both, d21),
+    row("D22", "field value or group too big", Outside, Both, d22),
+    row("S1", "SysEx7 message: D6 again", Outside, Both, s1),
+    row("S3", "byte stream: a byte above 7F panics", Outside, Both, s3),
+    row("S4", "byte stream: what follows the first F7 is passed over", Outside, Both, s4),
+    row("S5", "byte stream: a frame that is none, other words", Outside, Both, s5),
 ];
 
 /// The payload size of a valid message.
@@ -436,6 +397,43 @@ fn d8c(input: &Input) -> bool {
 /// From above to.
 fn d8d(input: &Input) -> bool {
     input.kind.is_splice() && valid(input) && input.numbers[1] > input.numbers[2]
+}
+
+/// A start or continue packet with another count than 14 from packet `from` on, with none but type 5 up to it.
+fn uneven_from(words: &[u32], from: usize) -> bool {
+    !packed(words.get(4 * from..).unwrap_or(&[]))
+}
+
+/// A growing buffer spliced by no more bytes than the range has, and an uneven continue packet past the packets that
+/// the old payload needs.
+fn d9a(input: &Input) -> bool {
+    if input.kind != Kind::SpliceGrowing || !valid(input) || !in_range(input) {
+        return false;
+    }
+    let range = input.numbers[2] - input.numbers[1];
+    input.bytes.len() as u64 <= range && uneven_from(input.message(), old_packets(input))
+}
+
+/// The packets that the old payload needs.
+fn old_packets(input: &Input) -> usize {
+    SYSEX8.fewest(size(input.message())).len()
+}
+
+/// Lent words, and an uneven packet past the packets that the old payload needs; past those of the result, if the
+/// payload grows or is set.
+fn d9b(input: &Input) -> bool {
+    let lent = matches!(input.kind, Kind::SpliceLent | Kind::PayloadLent);
+    if !lent || !valid(input) || !in_range(input) {
+        return false;
+    }
+    let grows =
+        input.kind.is_payload() || input.bytes.len() as u64 > input.numbers[2] - input.numbers[1];
+    let first = if grows {
+        packets(input).1
+    } else {
+        old_packets(input)
+    };
+    uneven_from(&input.words, first)
 }
 
 /// A payload of 14 bytes or more set on a growing buffer, and an id that is not 0.

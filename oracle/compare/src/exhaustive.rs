@@ -61,38 +61,8 @@ fn packets(counts: &mut Counts) -> Result<(), String> {
         ] {
             compare(&Input::new(Kind::Packet8, &words, &[]), counts)?;
         }
-        compare(
-            &Input::new(Kind::Packet7, &[first | 0xC142, 0x8384_8586], &[]),
-            counts,
-        )?;
-        if high % 16 == 1 {
-            compare(
-                &Input::new(
-                    Kind::PacketGroup8,
-                    &[first, 1, 2, 3],
-                    &[u64::from(high >> 4 & 15)],
-                ),
-                counts,
-            )?;
-            compare(
-                &Input::new(
-                    Kind::PacketGroup7,
-                    &[first, 1],
-                    &[u64::from(high >> 4 & 15)],
-                ),
-                counts,
-            )?;
-        }
-    }
-    for group in 0..=255 {
-        compare(
-            &Input::new(Kind::PacketGroup8, &[0x5A02_0741, 0, 0, 0], &[group]),
-            counts,
-        )?;
-        compare(
-            &Input::new(Kind::PacketGroup7, &[0x3A01_4100, 0], &[group]),
-            counts,
-        )?;
+        let words = [first | 0xC142, 0x8384_8586];
+        compare(&Input::new(Kind::Packet7, &words, &[]), counts)?;
     }
     for lent in 0..4 {
         compare(
@@ -101,6 +71,29 @@ fn packets(counts: &mut Counts) -> Result<(), String> {
         )?;
         compare(
             &Input::new(Kind::Packet7, &[0x3000_0000][..lent.min(1)], &[]),
+            counts,
+        )?;
+    }
+    packet_groups(counts)
+}
+
+/// Every group set in packets of every status and count, and every number in one.
+fn packet_groups(counts: &mut Counts) -> Result<(), String> {
+    for low in 0..=0xFF_u32 {
+        for group in 0..16 {
+            let first = low << 16 | 0x0A00_0741;
+            let eight = [first | 5 << 28, 1, 2, 3];
+            compare(&Input::new(Kind::PacketGroup8, &eight, &[group]), counts)?;
+            let seven = [first | 3 << 28, 1, 2];
+            compare(&Input::new(Kind::PacketGroup7, &seven, &[group]), counts)?;
+        }
+        let group = [u64::from(low)];
+        compare(
+            &Input::new(Kind::PacketGroup8, &[0x5A02_0741, 0, 0, 0], &group),
+            counts,
+        )?;
+        compare(
+            &Input::new(Kind::PacketGroup7, &[0x3A01_4100, 0], &group),
             counts,
         )?;
     }

@@ -7,10 +7,11 @@ use crate::random::Random;
 /// Payload sizes around the boundaries of packets.
 pub const BOUNDARIES: [usize; 16] = [0, 1, 2, 11, 12, 13, 14, 15, 25, 26, 27, 28, 38, 39, 40, 52];
 
-/// A payload size: often at a boundary.
+/// A payload size: mostly at a boundary, seldom a large one.
 pub fn payload_size(random: &mut Random) -> usize {
-    match random.below(4) {
-        0 => random.below(120),
+    match random.below(400) {
+        0 => random.below(3000),
+        1..=100 => random.below(120),
         _ => random.pick(&BOUNDARIES),
     }
 }
@@ -290,6 +291,17 @@ pub fn on_message(random: &mut Random, kind: Kind, damage: usize) -> Input {
         input.numbers[0] = length;
     }
     input
+}
+
+/// A message whose packets have its id in octet 3 too, and that id set.
+pub fn own_id(random: &mut Random) -> Input {
+    let mut words = message(random);
+    let id = stream_id(words[0]);
+    for first in words.iter_mut().step_by(4) {
+        *first = *first & !0xFF | id;
+    }
+    let length = words.len() as u64;
+    Input::new(Kind::SetStreamId, &words, &[length, id.into()])
 }
 
 /// A question about a SysEx7 message.

@@ -46,9 +46,6 @@ fn compare_all(options: &Options, counts: &mut Counts) -> Result<(), String> {
         None => start.elapsed() < Duration::from_secs(options.seconds),
     } {
         sampled::round(&mut random, counts)?;
-        for _ in 0..60 {
-            chains::chain(&mut random, counts)?;
-        }
         rounds += 1;
     }
     println!(
@@ -61,14 +58,11 @@ fn compare_all(options: &Options, counts: &mut Counts) -> Result<(), String> {
 
 /// The queries, then the comparison, then the tables.
 fn run(options: &Options) -> Result<(), String> {
+    asking::same_entries(&options.document)?;
     asking::run(&options.queries, &options.build)?;
     let mut counts = Counts::new();
     compare_all(options, &mut counts)?;
     counts.print();
-    println!(
-        "{} comparisons, all as docs/DIFFERENCES.md says",
-        counts.total()
-    );
     Ok(())
 }
 

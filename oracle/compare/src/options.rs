@@ -6,6 +6,8 @@ pub struct Options {
     pub command: String,
     /// The folder of queries and answers.
     pub queries: String,
+    /// The document that lists the differences.
+    pub document: String,
     /// The build of the original that this program has: release or debug.
     pub build: String,
     pub seed: u64,
@@ -22,6 +24,7 @@ impl Options {
         let mut options = Options {
             command: words.next().unwrap_or_default(),
             queries: "docs/differences".to_string(),
+            document: "docs/DIFFERENCES.md".to_string(),
             build: "release".to_string(),
             seed: 1,
             seconds: 60,
@@ -34,6 +37,7 @@ impl Options {
                 .unwrap_or_else(|| stop(&format!("{word} wants a value")));
             match word.as_str() {
                 "--queries" => options.queries = value,
+                "--document" => options.document = value,
                 "--build" => options.build = value,
                 "--made-by" => options.made_by = value,
                 "--seed" => options.seed = number(&word, &value),

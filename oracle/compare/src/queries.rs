@@ -5,7 +5,7 @@ use crate::differences::size;
 use crate::layout::SYSEX8;
 use crate::model;
 
-/// A query: its words, and the message's words apart from all that are lent.
+/// A query: its words.
 pub struct Query<'a> {
     pub parts: Vec<&'a str>,
 }
@@ -141,43 +141,32 @@ impl<'a> Query<'a> {
     fn on_message(&self) -> Input {
         let (all, length) = self.lent();
         let rest = &self.parts[2..];
-        let mut input = Input::new(Kind::Check8, &all, &[length as u64]);
-        match self.call() {
-            "m8" => {}
-            "m7" => input.kind = Kind::Check7,
+        let (kind, bytes, numbers) = match self.call() {
+            "m8" => (Kind::Check8, vec![], vec![]),
+            "m7" => (Kind::Check7, vec![], vec![]),
             "it8" => {
                 let (letters, numbers) = steps(rest[0]);
-                (input.kind, input.bytes) = (Kind::Reader, letters);
-                input.numbers.extend(numbers);
+                (Kind::Reader, letters, numbers)
             }
-            "group8" => {
-                (input.kind, input.numbers) = (Kind::SetGroup, vec![length as u64, number(rest[0])])
-            }
-            "id8" => {
-                (input.kind, input.numbers) = (Kind::SetStreamId, vec![length as u64, hex(rest[0])])
-            }
-            "byte8" => {
-                (input.kind, input.numbers) = (
-                    Kind::SetByte,
-                    vec![length as u64, number(rest[0]), hex(rest[1])],
-                )
-            }
-            "compact8" => input.kind = Kind::Pack,
-            "payload8" => (input.kind, input.bytes) = (Kind::PayloadGrowing, bytes(rest[0])),
-            "trypayload8" => (input.kind, input.bytes) = (Kind::PayloadLent, bytes(rest[0])),
-            call => {
-                input.kind = if call == "trysplice8" {
-                    Kind::SpliceLent
-                } else {
-                    Kind::SpliceGrowing
-                };
-                input.numbers.extend([number(rest[0]), number(rest[1])]);
-                input.bytes = bytes(rest[2]);
-            }
-        }
+            "group8" => (Kind::SetGroup, vec![], vec![number(rest[0])]),
+            "id8" => (Kind::SetStreamId, vec![], vec![hex(rest[0])]),
+            "byte8" => (Kind::SetByte, vec![], vec![number(rest[0]), hex(rest[1])]),
+            "compact8" => (Kind::Pack, vec![], vec![]),
+            "payload8" => (Kind::PayloadGrowing, bytes(rest[0]), vec![]),
+            "trypayload8" => (Kind::PayloadLent, bytes(rest[0]), vec![]),
+            "trysplice8" => (Kind::SpliceLent, bytes(rest[2]), range(rest)),
+            _ => (Kind::SpliceGrowing, bytes(rest[2]), range(rest)),
+        };
+        let numbers = [&[length as u64], &numbers[..]].concat();
+        let mut input = Input::with_bytes(kind, &all, &bytes, &numbers);
         give_room(&mut input);
         input
     }
+}
+
+/// From and to of a splice.
+fn range(parts: &[&str]) -> Vec<u64> {
+    vec![number(parts[0]), number(parts[1])]
 }
 
 /// Lends ours the words of the result of a call on a growing buffer.

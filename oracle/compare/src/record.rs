@@ -278,19 +278,8 @@ fn add_messages(sample: &mut Sample, random: &mut Random) {
     sample.fill(MORE_OF_EACH, || {
         inputs::on_message(random, Kind::SetStreamId, 8)
     });
-    sample.fill(60, || own_id(random));
+    sample.fill(60, || inputs::own_id(random));
     sample.fill(350, || reader(random));
-}
-
-/// A message whose packets have its id in octet 3 too, and that id set.
-fn own_id(random: &mut Random) -> Input {
-    let mut words = inputs::message(random);
-    let id = stream_id(words[0]);
-    for first in words.iter_mut().step_by(4) {
-        *first = *first & !0xFF | id;
-    }
-    let length = words.len() as u64;
-    Input::new(Kind::SetStreamId, &words, &[length, id.into()])
 }
 
 /// A reader that is asked for nth alone.
@@ -304,34 +293,7 @@ fn reader(random: &mut Random) -> Input {
 fn add_rewrites(sample: &mut Sample, random: &mut Random) {
     for old in [0, 12, 13, 14, 26, 27] {
         for new in [0, 12, 13, 14, 26, 27] {
-            let mut words = SYSEX8.fewest_form(random.word() & 15, 0, &random.bytes(old));
-            let length = words.len() as u64;
-            let bytes = random.bytes(new);
-            words.resize(words.len().max(4 * SYSEX8.fewest(new).len()), 0);
-            sample.add(&Input::with_bytes(
-                Kind::PayloadLent,
-                &words,
-                &bytes,
-                &[length],
-            ));
-            sample.add(&Input::with_bytes(
-                Kind::SpliceLent,
-                &words,
-                &bytes,
-                &[length, 0, old as u64],
-            ));
-            words.resize(
-                length.max(4 * SYSEX8.fewest(old + new).len() as u64) as usize,
-                0,
-            );
-            for at in [0, old as u64 / 2, old as u64] {
-                sample.add(&Input::with_bytes(
-                    Kind::SpliceLent,
-                    &words,
-                    &bytes,
-                    &[length, at, at],
-                ));
-            }
+            add_exactly_full(sample, random, old, new);
         }
     }
     for (kind, lines) in [
@@ -343,6 +305,32 @@ fn add_rewrites(sample: &mut Sample, random: &mut Random) {
         sample.fill(lines, || inputs::on_message(random, kind, 30));
     }
     sample.fill(4, || long_splice(random));
+}
+
+/// A payload set, replaced as a whole and put in at three places, in words that the result just fills.
+fn add_exactly_full(sample: &mut Sample, random: &mut Random, old: usize, new: usize) {
+    let message = SYSEX8.fewest_form(random.word() & 15, 0, &random.bytes(old));
+    let length = message.len() as u64;
+    let bytes = random.bytes(new);
+    let mut words = message.clone();
+    words.resize(message.len().max(4 * SYSEX8.fewest(new).len()), 0);
+    let whole = [length, 0, old as u64];
+    sample.add(&Input::with_bytes(
+        Kind::PayloadLent,
+        &words,
+        &bytes,
+        &[length],
+    ));
+    sample.add(&Input::with_bytes(Kind::SpliceLent, &words, &bytes, &whole));
+    words.resize(message.len().max(4 * SYSEX8.fewest(old + new).len()), 0);
+    for at in [0, old as u64 / 2, old as u64] {
+        sample.add(&Input::with_bytes(
+            Kind::SpliceLent,
+            &words,
+            &bytes,
+            &[length, at, at],
+        ));
+    }
 }
 
 /// A splice of a message of about 500 words.

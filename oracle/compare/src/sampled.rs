@@ -1,7 +1,9 @@
 //! Random inputs in rounds, each round the same mix.
 use crate::answers::{Input, Kind};
+use crate::chains;
 use crate::compare::compare;
 use crate::counts::Counts;
+use crate::differences::size;
 use crate::inputs;
 use crate::layout::*;
 use crate::random::Random;
@@ -44,8 +46,12 @@ pub fn round(random: &mut Random, counts: &mut Counts) -> Result<(), String> {
     }
     for _ in 0..150 {
         compare(&inputs::on_message(random, Kind::PayloadLent, 30), counts)?;
+        compare(&inputs::own_id(random), counts)?;
         compare(&inputs::check7(random), counts)?;
         compare(&inputs::stream(random), counts)?;
+    }
+    for _ in 0..60 {
+        chains::chain(random, counts)?;
     }
     Ok(())
 }
@@ -68,8 +74,7 @@ fn of_packets(random: &mut Random, packets: usize, last: usize, uneven: bool) ->
     )
 }
 
-/// The largest messages: 4,095 and 4,096 packets, edits that fill the words lent exactly, are one byte too
-/// long, or make the message shorter.
+/// The largest messages: 4,095 and 4,096 packets, the last full, nearly full or empty, and uneven ones.
 pub fn largest(random: &mut Random, counts: &mut Counts) -> Result<(), String> {
     for (packets, last, uneven) in [
         (4096, 13, false),
@@ -79,50 +84,59 @@ pub fn largest(random: &mut Random, counts: &mut Counts) -> Result<(), String> {
         (4096, 5, true),
     ] {
         let message = of_packets(random, packets, last, uneven);
-        let length = message.len() as u64;
-        let size = crate::differences::size(&message);
-        let mut words = message.clone();
-        words.resize(MOST_WORDS, 0);
-        compare(&Input::new(Kind::Check8, &message, &[length]), counts)?;
-        compare(&Input::new(Kind::Pack, &message, &[length]), counts)?;
-        compare(
-            &Input::new(Kind::SetByte, &message, &[length, size as u64 - 1, 0x99]),
-            counts,
-        )?;
-        compare(&Input::new(Kind::SetGroup, &message, &[length, 9]), counts)?;
-        let steps = [length, 13, 0, 26_000, 0, size as u64 - 26_016, 0];
-        compare(
-            &Input::with_bytes(Kind::Reader, &message, b"tntntn", &steps),
-            counts,
-        )?;
-        let at = random.below(size);
-        for inserted in [0, 1, 13, 53_248 - size, 53_249 - size] {
-            let bytes = random.bytes(inserted);
-            let numbers = [length, at as u64, at as u64];
+        read_largest(&message, counts)?;
+        edit_largest(random, &message, counts)?;
+    }
+    Ok(())
+}
+
+/// Reads and sets in one of the largest messages, and packs it.
+fn read_largest(message: &[u32], counts: &mut Counts) -> Result<(), String> {
+    let length = message.len() as u64;
+    let size = size(message) as u64;
+    compare(&Input::new(Kind::Check8, message, &[length]), counts)?;
+    compare(&Input::new(Kind::Pack, message, &[length]), counts)?;
+    compare(
+        &Input::new(Kind::SetByte, message, &[length, size - 1, 0x99]),
+        counts,
+    )?;
+    compare(&Input::new(Kind::SetGroup, message, &[length, 9]), counts)?;
+    compare(
+        &Input::new(Kind::SetStreamId, message, &[length, 9]),
+        counts,
+    )?;
+    let steps = [length, 13, 0, 26_000, 0, size - 26_016, 0];
+    compare(
+        &Input::with_bytes(Kind::Reader, message, b"tntntn", &steps),
+        counts,
+    )
+}
+
+/// Edits one of the largest messages in 16,384 words: results that are shorter, as long, exactly full and one byte
+/// too long.
+fn edit_largest(random: &mut Random, message: &[u32], counts: &mut Counts) -> Result<(), String> {
+    let (length, size) = (message.len() as u64, size(message));
+    let mut words = message.to_vec();
+    words.resize(MOST_WORDS, 0);
+    let at = random.below(size) as u64;
+    for inserted in [0, 1, 13, 53_248 - size, 53_249 - size] {
+        let bytes = random.bytes(inserted);
+        for kind in [Kind::SpliceLent, Kind::SpliceGrowing] {
             compare(
-                &Input::with_bytes(Kind::SpliceLent, &words, &bytes, &numbers),
-                counts,
-            )?;
-            compare(
-                &Input::with_bytes(Kind::SpliceGrowing, &words, &bytes, &numbers),
+                &Input::with_bytes(kind, &words, &bytes, &[length, at, at]),
                 counts,
             )?;
         }
-        let numbers = [length, 1, size as u64 - 1];
-        compare(
-            &Input::with_bytes(Kind::SpliceLent, &words, &[1, 2, 3], &numbers),
-            counts,
-        )?;
-        for inserted in [53_247, 53_248, 53_249] {
-            let bytes = random.bytes(inserted);
-            compare(
-                &Input::with_bytes(Kind::PayloadLent, &words, &bytes, &[length]),
-                counts,
-            )?;
-            compare(
-                &Input::with_bytes(Kind::PayloadGrowing, &words, &bytes, &[length]),
-                counts,
-            )?;
+    }
+    let numbers = [length, 1, size as u64 - 1];
+    compare(
+        &Input::with_bytes(Kind::SpliceLent, &words, &[1, 2, 3], &numbers),
+        counts,
+    )?;
+    for inserted in [53_247, 53_248, 53_249] {
+        let bytes = random.bytes(inserted);
+        for kind in [Kind::PayloadLent, Kind::PayloadGrowing] {
+            compare(&Input::with_bytes(kind, &words, &bytes, &[length]), counts)?;
         }
     }
     Ok(())

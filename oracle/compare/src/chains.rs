@@ -74,7 +74,7 @@ fn our_step(side: &mut Side, edit: &Edit) -> Result<(), String> {
 /// Makes an edit on the original's side; answers the input, which is its own.
 fn their_step(side: &mut Side, edit: &Edit) -> Result<Input, String> {
     let input = question(side, edit);
-    let theirs = as_expected(&input, &model::answer(&input))?;
+    let (theirs, _) = as_expected(&input, &model::answer(&input))?;
     if edit.0.rewrites() && theirs.end != End::Panicked {
         side.length = theirs.values[0] as usize;
         side.words = theirs.words;

@@ -133,8 +133,8 @@ pub fn against_rules(input: &Input) -> Result<Ours, String> {
     Ok(ours)
 }
 
-/// Asks the original and checks that it answers as the entries say.
-pub fn as_expected(input: &Input, ours: &Ours) -> Result<Theirs, String> {
+/// Asks the original and checks that it answers as the entries say; tells whether they leave part of it open.
+pub fn as_expected(input: &Input, ours: &Ours) -> Result<(Theirs, bool), String> {
     let theirs = original::answer(input);
     let expected = expected(input, ours);
     if !expected.holds(&theirs) && !debug_panic(input, &theirs) {
@@ -153,21 +153,18 @@ pub fn as_expected(input: &Input, ours: &Ours) -> Result<Theirs, String> {
             &parts,
         ));
     }
-    Ok(theirs)
+    Ok((theirs, matches!(expected, Expected::Beginning(_))))
 }
 
-/// Counts the differences whose test held, and those that differed; answers whether answers may differ, and
-/// whether words that are not compared may.
-fn count_held(input: &Input, same: bool, same_words: bool, counts: &mut Counts) -> (bool, bool) {
+/// Counts the differences whose test held, those that differed, and those whose answer is open; answers whether
+/// answers may differ, and whether words that are not compared may.
+fn count_held(input: &Input, same: [bool; 2], open: bool, counts: &mut Counts) -> (bool, bool) {
     let held = held(input);
     for &index in &held {
-        let differs = if only_words(index) {
-            !same_words
-        } else {
-            !same
-        };
+        let differs = !same[usize::from(only_words(index))];
         counts.held[index] += 1;
         counts.differed[index] += u64::from(differs);
+        counts.open[index] += u64::from(open);
     }
     let listed = held.iter().any(|&index| !only_words(index));
     (listed, !held.is_empty())
@@ -181,10 +178,10 @@ pub fn compare(input: &Input, counts: &mut Counts) -> Result<(), String> {
         counts.note(row, None, Outcome::Alone);
         return Ok(());
     }
-    let theirs = as_expected(input, &ours)?;
+    let (theirs, open) = as_expected(input, &ours)?;
     let same = alike(input, &ours, &theirs);
     let same_words = !same || words_alike(input, &ours, &theirs);
-    let (listed, words_listed) = count_held(input, same, same_words, counts);
+    let (listed, words_listed) = count_held(input, [same, same_words], open, counts);
     if !same && !listed || !same_words && !words_listed {
         let parts = [
             ("ours", format!("{ours:X?}")),

@@ -42,6 +42,7 @@ pub struct Counts {
     pub stand_ins: [[[u64; 5]; KIND_NAMES.len()]; STAND_IN_NAMES.len()],
     pub held: [u64; ALL.len()],
     pub differed: [u64; ALL.len()],
+    pub open: [u64; ALL.len()],
 }
 
 impl Counts {
@@ -52,6 +53,7 @@ impl Counts {
             stand_ins: [[[0; 5]; KIND_NAMES.len()]; STAND_IN_NAMES.len()],
             held: [0; ALL.len()],
             differed: [0; ALL.len()],
+            open: [0; ALL.len()],
         }
     }
 
@@ -134,8 +136,14 @@ impl Counts {
 
     /// Prints how often each difference showed.
     fn print_differences(&self) {
-        println!("Differences of docs/DIFFERENCES.md: inputs for which the test held, and those that differed");
-        println!("{:60}{:>14}{:>10}{:>10}", "", "", "held", "differed");
+        println!(
+            "Differences of docs/DIFFERENCES.md: inputs for which the test held, those that differed, and those for which \
+             the entry leaves the original's answer open"
+        );
+        println!(
+            "{:60}{:>14}{:>10}{:>10}{:>10}",
+            "", "", "held", "differed", "open"
+        );
         for (index, difference) in ALL.iter().enumerate() {
             if difference.builds == Builds::DebugOnly && !cfg!(debug_assertions) {
                 continue;
@@ -146,10 +154,9 @@ impl Counts {
                 Place::NotCompared => "not compared",
             };
             let name = format!("{:4} {}", difference.name, difference.title);
-            println!(
-                "{name:60}{place:>14}{:>10}{:>10}",
-                self.held[index], self.differed[index]
-            );
+            let counts = [self.held[index], self.differed[index], self.open[index]];
+            let cells: String = counts.iter().map(|count| format!("{count:>10}")).collect();
+            println!("{name:60}{place:>14}{cells}");
         }
         println!();
     }

@@ -142,7 +142,7 @@ fn d1(input: &Input) -> bool {
 
 /// A splice of a growing buffer that gains packets, and an id that is not 0.
 fn d2a(input: &Input) -> bool {
-    if input.kind != Kind::SpliceGrowing || !valid(input) {
+    if input.kind != Kind::SpliceGrowing || !valid(input) || !in_range(input) {
         return false;
     }
     let (before, after) = packets(input);
@@ -151,7 +151,8 @@ fn d2a(input: &Input) -> bool {
 
 /// Lent words, packets gained, and another id where one of them will stand.
 fn d2b(input: &Input) -> bool {
-    if !matches!(input.kind, Kind::SpliceLent | Kind::PayloadLent) || !valid(input) {
+    let lent = matches!(input.kind, Kind::SpliceLent | Kind::PayloadLent);
+    if !lent || !valid(input) || !in_range(input) {
         return false;
     }
     let (before, after) = packets(input);

@@ -41,9 +41,7 @@ pub fn expected(input: &Input, ours: &Ours) -> Expected {
         Kind::Read(_) | Kind::Set(_) if ours.refusal == 16 => panicked(vec![]),
         Kind::Packet8 => packet8(input, ours),
         Kind::PacketGroup8 | Kind::PacketGroup7 => packet_group(input, ours),
-        Kind::Steps8 | Kind::Steps7 if ours.refusal == 10 && input.kind == Kind::Steps8 => {
-            Beginning(vec![])
-        }
+        Kind::Steps8 if ours.refusal == 10 => packet_steps(input),
         Kind::Steps8 | Kind::Steps7 if ours.refusal == 0 => packet_steps(input),
         Kind::Packet7 | Kind::Steps8 | Kind::Steps7 if ours.refusal != 0 => {
             refused(input, ours.refusal)
@@ -121,28 +119,33 @@ fn packet_group(input: &Input, ours: &Ours) -> Expected {
     }
 }
 
-/// Steps over a packet of fit count: a place that nth of SysEx8 leaves on its byte (D7a), that goes past the end
-/// (D12; SysEx7 at most to 6) and wraps (D13). An unexpected end of count 15 has 14 bytes (D11), left open.
+/// The octet that a packet's reader takes for payload byte `at`; none past the packet's words. The sum wraps.
+fn taken(shape: &Shape, words: &[u32], at: u64) -> Option<u64> {
+    let octet = at.wrapping_add(shape.head as u64);
+    let word = words[..shape.words].get((octet / 4) as usize)?;
+    Some(u64::from(word >> (24 - 8 * (octet % 4)) & shape.mask))
+}
+
+/// Steps over a packet: a place that nth of SysEx8 leaves on its byte (D7a), that goes past the end (D12; SysEx7 at
+/// most to 6) and wraps (D13). The size is the count less one, also for counts 0 and 15 (D8a, D8b, D11), and a byte past
+/// the packet's words panics.
 fn packet_steps(input: &Input) -> Expected {
     let shape = model::shape_of(input.kind);
-    let size = shape.size(input.words[0]) as u64;
-    if size > shape.room as u64 {
-        return Beginning(vec![]);
-    }
+    let size = u64::from(count(input.words[0])).wrapping_sub(shape.bias.into());
     let (mut place, mut values) = (0_u64, Vec::new());
     for (letter, &number) in input.bytes.iter().zip(&input.numbers) {
         let skip = if *letter == b'n' { 0 } else { number };
         let at = place.wrapping_add(skip);
         let here = at < size;
-        values.push(if here {
-            shape.byte(&input.words, at as usize).into()
-        } else {
-            ENDED
-        });
+        match taken(shape, &input.words, at) {
+            _ if !here => values.push(ENDED),
+            Some(byte) => values.push(byte),
+            None => return panicked(values),
+        }
         place = match (*letter, here) {
             (b'n', true) => at + 1,
             (b'n', false) => place,
-            (_, true) if shape.has_id => at,
+            (_, true) if shape.has_id => at.min(13),
             (_, true) => at + 1,
             (_, false) if shape.has_id => at,
             (_, false) => at.min(6),
@@ -205,34 +208,38 @@ fn accepted(shape: &Shape, message: &[u32], leading: usize) -> Expected {
     done(model::summary(shape, &message[..leading]))
 }
 
-/// Steps over a message: nth after an nth that ended panics (D7b), and nth past the end reads on in the packets
-/// behind (D16), which is left open after its byte, and from the start where a count behind is unfit.
+/// Steps over a message: nth after an nth that ended panics (D7b); nth past the end reads on in the packets behind,
+/// and so do the steps after it, while the bytes remaining wrap (D16). That is left open where a count behind is unfit.
 fn reader(input: &Input) -> Expected {
-    let behind = input.behind();
-    let fit = behind.chunks_exact(4).all(|packet| SYSEX8.fits(packet[0]));
+    let packets_behind = input.behind().len() >= 4;
+    let fit = input
+        .behind()
+        .chunks_exact(4)
+        .all(|packet| SYSEX8.fits(packet[0]));
     let all = SYSEX8.payload(if fit { &input.words } else { input.message() });
     let size = size(input.message()) as u64;
-    let (mut place, mut ended, mut values) = (0_u64, false, Vec::new());
+    let (mut place, mut ended, mut beyond) = (0_u64, false, false);
+    let mut values = Vec::new();
     for (letter, &number) in input.bytes.iter().zip(&input.numbers[1..]) {
         let nth = *letter == b't';
         let skip = if nth { number } else { 0 };
-        if nth && ended {
-            return panicked(values);
+        let inside = !beyond && skip < size - place;
+        let past = beyond || nth && skip > size - place;
+        let at = place.saturating_add(skip);
+        match all.get(at as usize) {
+            _ if nth && ended => return panicked(values),
+            _ if nth && !inside && packets_behind && !fit => return Beginning(values),
+            Some(&byte) if inside || past => {
+                values.push(byte.into());
+                (place, beyond) = (at + 1, past);
+            }
+            None if beyond && !nth => return panicked(values),
+            _ => {
+                values.push(ENDED);
+                (place, beyond, ended) = (size, false, ended || nth);
+            }
         }
-        if skip < size - place {
-            place += skip + 1;
-            values.push(all[place as usize - 1].into());
-        } else if nth && behind.len() >= 4 && !fit {
-            return Beginning(values);
-        } else if nth && skip > size - place && place.saturating_add(skip) < all.len() as u64 {
-            values.push(all[(place + skip) as usize].into());
-            return Beginning(values);
-        } else {
-            place = size;
-            ended |= nth;
-            values.push(ENDED);
-        }
-        values.push(size - place);
+        values.push(size.wrapping_sub(place));
     }
     done(values)
 }

@@ -1,5 +1,4 @@
 //! Asks all queries of docs/differences and compares the answers with those that are written down.
-use crate::differences::{ALL, ONLY_QUERIES};
 use crate::ours_text::demanded;
 use crate::queries::{lines, Query};
 use crate::{original_text, port};
@@ -65,39 +64,6 @@ pub fn run(folder: &str, build: &str) -> Result<(), String> {
     match faults {
         0 => Ok(()),
         _ => Err("answers not as written down".to_string()),
-    }
-}
-
-/// The names of the entries in the list of docs/DIFFERENCES.md.
-fn listed(document: &str) -> Vec<&str> {
-    let rows = document.lines().filter_map(|line| line.strip_prefix("| D"));
-    rows.filter_map(|row| row.split(" |").next()).collect()
-}
-
-/// Checks that the document and this program have the same entries.
-pub fn same_entries(path: &str) -> Result<(), String> {
-    let document = read_to_string(path).map_err(|error| format!("{path}: {error}"))?;
-    let in_document = listed(&document);
-    let names = ALL.iter().map(|difference| difference.name);
-    let in_program: Vec<&str> = names
-        .chain(ONLY_QUERIES)
-        .filter_map(|name| name.strip_prefix('D'))
-        .collect();
-    let missing = |from: &[&str], other: &[&str]| -> Vec<String> {
-        let names = from.iter().filter(|name| !other.contains(name));
-        names.map(|name| format!("D{name}")).collect()
-    };
-    let apart = [
-        missing(&in_document, &in_program),
-        missing(&in_program, &in_document),
-    ]
-    .concat();
-    match apart.is_empty() {
-        true => Ok(()),
-        false => Err(format!(
-            "not in both {path} and the program: {}",
-            apart.join(" ")
-        )),
     }
 }
 

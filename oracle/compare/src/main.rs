@@ -5,6 +5,7 @@ mod chains;
 mod compare;
 mod counts;
 mod differences;
+mod document;
 mod exhaustive;
 mod expect;
 mod inputs;
@@ -58,7 +59,7 @@ fn compare_all(options: &Options, counts: &mut Counts) -> Result<(), String> {
 
 /// The queries, then the comparison, then the tables.
 fn run(options: &Options) -> Result<(), String> {
-    asking::same_entries(&options.document)?;
+    document::check(&options.document, &options.queries)?;
     asking::run(&options.queries, &options.build)?;
     let mut counts = Counts::new();
     compare_all(options, &mut counts)?;

@@ -6,6 +6,7 @@ mod compare;
 mod counts;
 mod differences;
 mod document;
+mod examples;
 mod exhaustive;
 mod expect;
 mod inputs;
@@ -57,8 +58,9 @@ fn compare_all(options: &Options, counts: &mut Counts) -> Result<(), String> {
     Ok(())
 }
 
-/// The queries, then the comparison, then the tables.
+/// Examples, document and queries, then the comparison, then the tables.
 fn run(options: &Options) -> Result<(), String> {
+    examples::check()?;
     document::check(&options.document, &options.queries)?;
     asking::run(&options.queries, &options.build)?;
     let mut counts = Counts::new();

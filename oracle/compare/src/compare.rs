@@ -79,7 +79,7 @@ fn words_alike(input: &Input, ours: &Ours, theirs: &Theirs) -> bool {
 }
 
 /// Whether a difference is about words that are not compared in a rewritten message.
-fn only_words(index: usize) -> bool {
+pub fn only_words(index: usize) -> bool {
     ALL[index].place == Place::NotCompared && ALL[index].name != "D17"
 }
 
@@ -166,8 +166,8 @@ fn count_held(input: &Input, same: [bool; 2], open: bool, counts: &mut Counts) -
         counts.differed[index] += u64::from(differs);
         counts.open[index] += u64::from(open);
     }
-    let listed = held.iter().any(|&index| !only_words(index));
-    (listed, !held.is_empty())
+    let listed = |words: bool| held.iter().any(|&index| only_words(index) == words);
+    (listed(false), listed(true))
 }
 
 /// Compares one input and counts it. An error is a fault of the run.

@@ -1,5 +1,5 @@
-# Sourced by run and record, from the project's root: finds the original files and the tools, and builds the program
-# in target/oracle. Nothing is fetched.
+# Sourced by run, record and bench/run, from the project's root: finds the original files and the tools, and builds a
+# program over the original in target/oracle. Nothing is fetched.
 
 oracle_folder=target/oracle
 
@@ -39,16 +39,21 @@ oracle_copy() {
     chmod u+w "$2"
 }
 
-# Lays out the build folder: stand-ins and program from here, the originals from the folder $1.
+# Copies the files below the folder $1 to the folder $2.
+oracle_copy_all() {
+    local file
+    while read -r file; do
+        oracle_copy "$1/$file" "$2/$file"
+    done < <(cd "$1" && find . -type f)
+}
+
+# Lays out the build folder: stand-ins and programs from here, the originals from the folder $1.
 oracle_lay_out() {
     local file sum name
     [ -d "$1" ] || oracle_stop "no folder of original files at $1"
-    while read -r file; do
-        oracle_copy "oracle/stand-ins/$file" "$oracle_folder/$file"
-    done < <(cd oracle/stand-ins && find . -type f)
-    while read -r file; do
-        oracle_copy "oracle/compare/$file" "$oracle_folder/compare/$file"
-    done < <(cd oracle/compare && find . -type f)
+    oracle_copy_all oracle/stand-ins "$oracle_folder"
+    oracle_copy_all oracle/compare "$oracle_folder/compare"
+    oracle_copy_all bench "$oracle_folder/bench"
     while read -r sum name; do
         file=$(oracle_find "$1" "$name") || oracle_stop "$name is not below $1"
         oracle_copy "$file" "$oracle_folder/midi2/src/$name"
@@ -59,18 +64,18 @@ oracle_lay_out() {
     oracle_sums "before the build"
 }
 
-# Builds the program against the library $1; further arguments go to cargo. The program's path is left in
+# Builds the program $1 against the library $2; further arguments go to cargo. The program's path is left in
 # oracle_program.
 oracle_build() {
-    local library=$1 profile=debug
-    shift
+    local program=$1 library=$2 profile=debug
+    shift 2
     [ -f "$library" ] || oracle_stop "no library at $library (make it with: rt staticlib latchbeacon)"
     LATCHBEACON_LIBRARY=$(realpath "$library")
     export LATCHBEACON_LIBRARY
     . tools/x86_64.sh
     x86_64_tools >"$oracle_folder/.tools" || oracle_stop "$(cat "$oracle_folder/.tools")"
-    (cd "$oracle_folder" && cargo build --offline --quiet --target-dir target -p compare "$@") || oracle_stop "the build failed"
+    (cd "$oracle_folder" && cargo build --offline --quiet --target-dir target -p "$program" "$@") || oracle_stop "the build failed"
     oracle_sums "after the build"
     case " $* " in *" --release "*) profile=release ;; esac
-    oracle_program=$oracle_folder/target/${CARGO_BUILD_TARGET:+$CARGO_BUILD_TARGET/}$profile/compare
+    oracle_program=$oracle_folder/target/${CARGO_BUILD_TARGET:+$CARGO_BUILD_TARGET/}$profile/$program
 }

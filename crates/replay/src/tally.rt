@@ -17,7 +17,7 @@ pub(crate) fn group_of(kind: usize) -> usize {
     match kind {
         0..=0xF => 0,
         0x10..=0x1F => 1,
-        0x20 | 0x2A => 2,
+        0x20 | 0x2A..=0x2B => 2,
         0x21 => 3,
         0x22..=0x24 => 4,
         0x25 | 0x35 => 5,

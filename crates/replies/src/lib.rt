@@ -12,7 +12,8 @@
 //   27        set the payload to the bytes: length; 25 to 27: 0, new length, three octets of each packet, payload
 //   28        the bytes to SysEx7: group, words lent; 0, words written
 //   29        words needed: size; words
-//   2A        check of so many packets, the words being the first, one of the inner ones and the last: packets; 0, group, id, size, words
+//   2A        check where more words are lent, zeros behind those given: length, words lent
+//   2B        check of so many packets, the words being the first, one of the inner ones and the last: packets; 2A and 2B: 0, group, id, size, words
 //   35 to 37  as 25 to 27: 0, new length, words lent
 //
 // A refusal of 12, 13, 22 to 27 and 35 to 37 is followed by the words lent.
@@ -27,8 +28,8 @@ mod streams;
 fn takes(kind: usize, count: usize) -> bool {
     match kind {
         0x10..=0x11 => count == 0,
-        0x1..=0x6 | 0x12..=0x13 | 0x20 | 0x25 | 0x27 | 0x29..=0x2A | 0x35 | 0x37 => count == 1,
-        0x9..=0xE | 0x22..=0x23 | 0x28 => count == 2,
+        0x1..=0x6 | 0x12..=0x13 | 0x20 | 0x25 | 0x27 | 0x29 | 0x2B | 0x35 | 0x37 => count == 1,
+        0x9..=0xE | 0x22..=0x23 | 0x28 | 0x2A => count == 2,
         0x24 | 0x26 | 0x36 => count == 3,
         0x21 => count > 0,
         _ => false,
@@ -72,7 +73,8 @@ fn reply_large(
         0x24 => messages::set(kind, words, first, second, third, answer),
         0x28 => streams::write(bytes, first, second, answer),
         0x29 => streams::words_needed(first, answer),
-        0x2A => messages::check_many(words, first, answer),
+        0x2A => messages::check_lent(words, first, second, answer),
+        0x2B => messages::check_many(words, first, answer),
         _ => splices::change(kind, words, bytes, first, second, third, answer),
     }
 }

@@ -38,19 +38,6 @@ pub(crate) fn put_payload(answer: &mut [usize], at: usize, words: &[u32], length
     put_copied(answer, at, words, length, &mut bytes)
 }
 
-// Checks a message: group, stream id, payload size and words.
-fn check_summary(words: &[u32], answer: &mut [usize]) -> usize {
-    let checked = message::sysex8::check(words, words.len());
-    match checked {
-        Checked::Refused(fault) => answer::refuse(answer, fault),
-        Checked::Message(found) => {
-            let group = found.group as usize;
-            let id = found.id as usize;
-            answer::put_four(answer, group, id, found.size, found.words)
-        }
-    }
-}
-
 // Checks a message: group, stream id, payload size, words, and the payload.
 pub(crate) fn check(words: &[u32], length: usize, answer: &mut [usize]) -> usize {
     let checked = message::sysex8::check(words, length);
@@ -70,9 +57,13 @@ fn word_at(words: &[u32], index: usize) -> u32 {
     if index < words.len() { words[index] } else { 0 }
 }
 
-// Where the word stands that comes to a place of so many packets: in the first packet, in the last, or in the inner one.
+// Where the word stands that comes to a place of so many packets: in the first packet, in the last, or in the inner one; at the same
+// place if no packets are asked for.
 fn source(at: usize, packets: usize) -> usize {
     if at < 4 {
+        return at;
+    }
+    if packets == 0 {
         return at;
     }
     if at / 4 + 1 == packets {
@@ -81,7 +72,7 @@ fn source(at: usize, packets: usize) -> usize {
     at % 4 + 4
 }
 
-// Lays out so many packets: the first of the words, the second for each inner one, the third.
+// Lays out so many packets: the first of the words, the second for each inner one, the third; or the words as they are. Zeros behind.
 fn lay_out(words: &[u32], packets: usize, room: &mut [u32]) {
     let mut at = 0;
     while at < room.len() {
@@ -90,19 +81,37 @@ fn lay_out(words: &[u32], packets: usize, room: &mut [u32]) {
     }
 }
 
-// Checks a message of so many packets in this room.
-fn check_in(words: &[u32], packets: usize, room: &mut [u32], answer: &mut [usize]) -> usize {
-    if packets > room.len() / 4 {
+// Checks the message in the first `length` of so many words of a room: group, stream id, payload size and words.
+fn check_in(room: &[u32], lent: usize, length: usize, answer: &mut [usize]) -> usize {
+    if lent > room.len() {
         return 0;
     }
-    lay_out(words, packets, room);
-    check_summary(&room[0..4 * packets], answer)
+    let checked = message::sysex8::check(&room[0..lent], length);
+    match checked {
+        Checked::Refused(fault) => answer::refuse(answer, fault),
+        Checked::Message(found) => {
+            let group = found.group as usize;
+            let id = found.id as usize;
+            answer::put_four(answer, group, id, found.size, found.words)
+        }
+    }
 }
 
 // Checks a message of so many packets.
 pub(crate) fn check_many(words: &[u32], packets: usize, answer: &mut [usize]) -> usize {
     let mut room = [0u32; MANY];
-    check_in(words, packets, &mut room, answer)
+    if packets > MANY / 4 {
+        return 0;
+    }
+    lay_out(words, packets, &mut room);
+    check_in(&room, 4 * packets, 4 * packets, answer)
+}
+
+// Checks a message where so many words are lent, zeros behind those of the record.
+pub(crate) fn check_lent(words: &[u32], length: usize, lent: usize, answer: &mut [usize]) -> usize {
+    let mut room = [0u32; MANY];
+    lay_out(words, 0, &mut room);
+    check_in(&room, lent, length, answer)
 }
 
 // What a reader read: the byte, or 100 hex where the payload has ended.

@@ -68,6 +68,30 @@ fn row(input: &Input, ours: &Ours) -> Vec<u64> {
     }
 }
 
+/// The line of a check where only zeros stand behind the message: the message, and how many words are lent.
+fn lent_line(input: &Input, answer: &[u64]) -> Option<String> {
+    let message = input.words.get(..*input.numbers.first()? as usize)?;
+    let zeros = input.words[message.len()..].iter().all(|&word| word == 0);
+    let few = message.len() <= MOST[0] && input.kind == Kind::Check8;
+    (few && zeros).then(|| {
+        format!(
+            "2A;{};;{};{}",
+            list(&as_values(message)),
+            list(&[message.len() as u64, input.words.len() as u64]),
+            list(&answer[..answer.len().min(5)])
+        )
+    })
+}
+
+/// The line of a rewrite that shows all words lent.
+fn whole_line(input: &Input, ours: &Ours) -> Option<String> {
+    let number = kind_number(input.kind)? + 0x10;
+    let answer = [&[0, *ours.values.first()?], &as_values(&ours.words)[..]].concat();
+    let text = line(input, &answer)?;
+    let rest = text.split_once(';')?.1;
+    (input.kind.rewrites() && ours.refusal == 0).then(|| format!("{number:X};{rest}"))
+}
+
 /// The line of an input and an answer. None if it does not fit.
 fn line(input: &Input, answer: &[u64]) -> Option<String> {
     let kind = kind_number(input.kind)?;
@@ -123,7 +147,10 @@ fn query_line(line_of_query: &str, ours: &str, names: &str) -> Option<String> {
     let steps = query.parts.get(2).copied().unwrap_or("");
     let demanded = demanded(ours, steps, &input)?;
     let answer = original_text::answer(&query);
-    let text = line(&as_file_input(&input), &row(&input, &demanded))?;
+    let (file_input, numbers) = (as_file_input(&input), row(&input, &demanded));
+    let text = whole_line(&file_input, &demanded)
+        .or_else(|| line(&file_input, &numbers))
+        .or_else(|| lent_line(&file_input, &numbers))?;
     Some(format!("{text};{names} {answer}"))
 }
 
@@ -350,6 +377,30 @@ fn long_splice(random: &mut Random) -> Input {
     )
 }
 
+/// A message of so many packets of 13 bytes, the last of one: the first packet, one of the inner ones and the last are written.
+fn many_line(packets: usize) -> Option<String> {
+    let firsts = [0x541E_0901, 0x542E_0902, 0x5432_0903];
+    let packet = |first: u32| [first, 0, 0, 0];
+    let inner = packet(firsts[1]).repeat(packets - 2);
+    let words = [&packet(firsts[0])[..], &inner, &packet(firsts[2])].concat();
+    let input = Input::new(Kind::Check8, &words, &[words.len() as u64]);
+    let (theirs, demanded) = (original::answer(&input), model::answer(&input));
+    let their_answer = [&[0], theirs.values.get(..4)?].concat();
+    let (answer, behind) = match demanded.refusal {
+        0 => (their_answer, String::new()),
+        _ => (
+            row(&input, &demanded),
+            format!(";D20 {}", list(&their_answer)),
+        ),
+    };
+    let written: Vec<u32> = firsts.into_iter().flat_map(packet).collect();
+    Some(format!(
+        "2B;{};;{packets:X};{}{behind}",
+        list(&as_values(&written)),
+        list(&answer)
+    ))
+}
+
 /// The whole sample.
 pub fn write(folder: &str, command: &str, seed: u64) -> Result<String, String> {
     let mut random = Random::new(seed);
@@ -365,10 +416,15 @@ pub fn write(folder: &str, command: &str, seed: u64) -> Result<String, String> {
     for bytes in (0..=66).chain([506, 507, 508, 53_247, 53_248, 53_249]) {
         sample.add(&Input::new(Kind::Needed, &[], &[bytes]));
     }
+    sample.lines.extend(
+        [2, 3, 4_095, 4_096, 4_097]
+            .into_iter()
+            .filter_map(many_line),
+    );
     let head = format!(
         "# Answers of the original, midi2 0.11.1, release build, made by: {command}\n\
          # KIND;WORDS;BYTES;NUMBERS;ANSWER in hex; on lines that end in the name of an entry of docs/DIFFERENCES.md and \
-         the original's answer, ANSWER is what document 01 demands.\n"
+         the original's answer, ANSWER is what document 01 demands. The kinds are in crates/replies/src/lib.rt.\n"
     );
     Ok(head + &sample.lines.join("\n") + "\n")
 }

@@ -1,0 +1,44 @@
+//! The messages that are timed.
+
+/// So many payload bytes, none like its neighbour.
+pub fn bytes(size: usize) -> Vec<u8> {
+    (0..size).map(|index| (index * 7 + 3) as u8).collect()
+}
+
+/// The bytes in packets of these sizes.
+fn packets(bytes: &[u8], sizes: &[usize]) -> Vec<u32> {
+    let mut words = Vec::new();
+    let mut rest = bytes;
+    for (packet, &size) in sizes.iter().enumerate() {
+        let status = match (packet, sizes.len()) {
+            (_, 1) => 0,
+            (0, _) => 1,
+            (last, count) if last + 1 == count => 3,
+            _ => 2,
+        };
+        let mut octets = [0u8; 16];
+        octets[0] = 0x50;
+        octets[1] = (status << 4 | (size + 1)) as u8;
+        octets[3..3 + size].copy_from_slice(&rest[..size]);
+        rest = &rest[size..];
+        words.extend(octets.chunks(4).map(|four| u32::from_be_bytes(four.try_into().expect("four octets"))));
+    }
+    assert!(rest.is_empty() && words.len() <= 16_384);
+    words
+}
+
+/// The fewest-packet form.
+pub fn packed(bytes: &[u8]) -> Vec<u32> {
+    let sizes: Vec<usize> = bytes.chunks(13).map(<[u8]>::len).collect();
+    packets(bytes, &sizes)
+}
+
+/// Seven bytes in each packet where 4,096 packets hold that; else seven in the first and thirteen in the others.
+pub fn uneven(bytes: &[u8]) -> Vec<u32> {
+    let sizes: Vec<usize> = if bytes.len() <= 7 * 4_096 {
+        bytes.chunks(7).map(<[u8]>::len).collect()
+    } else {
+        std::iter::once(7).chain(bytes[7..].chunks(13).map(<[u8]>::len)).collect()
+    };
+    packets(bytes, &sizes)
+}

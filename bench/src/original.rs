@@ -1,0 +1,66 @@
+//! The original: the calls that a user of it makes.
+use midi2::inside;
+use midi2::sysex8::Sysex8;
+use midi2::Sysex;
+
+/// `try_from`.
+#[inline(never)]
+pub fn check(words: &[u32]) {
+    Sysex8::try_from(words).expect("a message");
+}
+
+/// The payload, through its iterator, into the bytes.
+#[inline(never)]
+pub fn payload(words: &[u32], bytes: &mut [u8]) {
+    for (to, from) in bytes.iter_mut().zip(inside::sysex8(words).payload()) {
+        *to = from;
+    }
+}
+
+/// A byte, by the iterator's `nth`.
+#[inline(never)]
+pub fn byte(words: &[u32], index: usize) -> u8 {
+    inside::sysex8(words).payload().nth(index).expect("a byte")
+}
+
+/// `set_byte`.
+#[inline(never)]
+pub fn set_byte(words: &mut [u32], index: usize, value: u8) {
+    inside::sysex8(words).set_byte(value, index);
+}
+
+/// `compact`.
+#[inline(never)]
+pub fn pack(words: &mut [u32]) {
+    inside::compact(&mut inside::sysex8(words));
+}
+
+/// A message in a `Vec` with room for more.
+pub struct Bank(Sysex8<Vec<u32>>);
+
+impl Bank {
+    /// A copy of the words.
+    pub fn new(words: &[u32]) -> Bank {
+        let mut room = Vec::with_capacity(words.len() + 16);
+        room.extend_from_slice(words);
+        Bank(inside::sysex8(room))
+    }
+
+    /// `splice_payload`.
+    #[inline(never)]
+    pub fn splice(&mut self, from: usize, to: usize, replacement: &[u8]) {
+        self.0.splice_payload(replacement.iter().copied(), from..to);
+    }
+
+    /// `try_from` of the words, then `splice_payload`.
+    #[inline(never)]
+    pub fn checked_splice(&mut self, from: usize, to: usize, replacement: &[u8]) {
+        check(inside::words_of(&self.0));
+        self.splice(from, to, replacement);
+    }
+
+    /// The payload.
+    pub fn payload(&self) -> Vec<u8> {
+        self.0.payload().collect()
+    }
+}

@@ -1,0 +1,110 @@
+//! The port: the exported calls, which check the message each time.
+
+#[repr(C)]
+struct Number {
+    refusal: u8,
+    place: usize,
+    value: usize,
+}
+
+#[repr(C)]
+struct Message {
+    refusal: u8,
+    place: usize,
+    group: u8,
+    id: u8,
+    size: usize,
+    words: usize,
+}
+
+#[repr(C)]
+struct Change {
+    refusal: u8,
+    place: usize,
+    length: usize,
+    growth: i64,
+}
+
+type Words = *const u32;
+type Room = *mut u32;
+
+extern "C" {
+    fn latchbeacon_sysex8_check(words: Words, lent: usize, length: usize) -> Message;
+    fn latchbeacon_sysex8_byte(words: Words, lent: usize, length: usize, index: usize) -> Number;
+    fn latchbeacon_sysex8_payload(words: Words, lent: usize, length: usize, bytes: *mut u8, bytes_lent: usize) -> Number;
+    fn latchbeacon_sysex8_set_byte(words: Room, lent: usize, length: usize, index: usize, value: u8) -> Number;
+    fn latchbeacon_sysex8_repack(words: Room, lent: usize, length: usize) -> Number;
+    fn latchbeacon_sysex8_splice(
+        words: Room,
+        lent: usize,
+        length: usize,
+        from: usize,
+        to: usize,
+        replacement: *const u8,
+        replacement_lent: usize,
+    ) -> Change;
+}
+
+/// The check.
+pub fn check(words: &[u32]) {
+    let answer = unsafe { latchbeacon_sysex8_check(words.as_ptr(), words.len(), words.len()) };
+    assert!(answer.refusal == 0);
+}
+
+/// The payload into the bytes.
+pub fn payload(words: &[u32], bytes: &mut [u8]) {
+    let (to, room) = (bytes.as_mut_ptr(), bytes.len());
+    let answer = unsafe { latchbeacon_sysex8_payload(words.as_ptr(), words.len(), words.len(), to, room) };
+    assert!(answer.refusal == 0);
+}
+
+/// A byte.
+pub fn byte(words: &[u32], index: usize) -> u8 {
+    let answer = unsafe { latchbeacon_sysex8_byte(words.as_ptr(), words.len(), words.len(), index) };
+    assert!(answer.refusal == 0);
+    answer.value as u8
+}
+
+/// Sets a byte.
+pub fn set_byte(words: &mut [u32], index: usize, value: u8) {
+    let answer = unsafe { latchbeacon_sysex8_set_byte(words.as_mut_ptr(), words.len(), words.len(), index, value) };
+    assert!(answer.refusal == 0);
+}
+
+/// The fewest-packet form.
+pub fn pack(words: &mut [u32]) {
+    let answer = unsafe { latchbeacon_sysex8_repack(words.as_mut_ptr(), words.len(), words.len()) };
+    assert!(answer.refusal == 0);
+}
+
+/// A message in a buffer with room for more.
+pub struct Bank {
+    words: Vec<u32>,
+    length: usize,
+}
+
+impl Bank {
+    /// A copy of the words.
+    pub fn new(words: &[u32]) -> Bank {
+        let mut room = words.to_vec();
+        room.resize((words.len() + 8).min(16_384), 0);
+        Bank { words: room, length: words.len() }
+    }
+
+    /// A splice.
+    pub fn splice(&mut self, from: usize, to: usize, replacement: &[u8]) {
+        let (words, lent) = (self.words.as_mut_ptr(), self.words.len());
+        let (bytes, count) = (replacement.as_ptr(), replacement.len());
+        let answer = unsafe { latchbeacon_sysex8_splice(words, lent, self.length, from, to, bytes, count) };
+        assert!(answer.refusal == 0);
+        self.length = answer.length;
+    }
+
+    /// The payload.
+    pub fn payload(&self) -> Vec<u8> {
+        let message = unsafe { latchbeacon_sysex8_check(self.words.as_ptr(), self.words.len(), self.length) };
+        let mut bytes = vec![0; message.size];
+        payload(&self.words[..self.length], &mut bytes);
+        bytes
+    }
+}

@@ -1,14 +1,14 @@
 -- Four payload bytes at once, across the header that may stand between them. Assumes nothing.
 use mathlib.Core.Path.{_≡_, refl, sym, _∙_}
 use mathlib.Core.List.{List}
-use Prim.Native.Nat.{ℕ, zero, suc, _+_, _*_, _/_, _%_, _^_, _≤_, _<_}
+use Prim.Native.Nat.{ℕ, zero, suc, _+_, _*_, _/_, _%_, _^_, _<_}
 use native.Mathlib.Nat.{add-zero}
 use native.Mathlib.Omega.{arith}
 use lib.ListN.{getD}
 use Rattle.ump.specs.Word.{word, octet}
 use Rattle.ump.proofs.Words.{word-octets, octet-fits}
 use Rattle.splice.specs.Places.{place, packedByte, cut}
-use Rattle.splice.proofs.Standing.{quarters}
+use Rattle.splice.proofs.Standing.{quarters, place-add, place-over}
 
 -- ---- parts of words, by their octets
 
@@ -39,16 +39,6 @@ module _ (x a b c d : ℕ) (e : x ≡ word a b c d) (p0 : a < 256) (p1 : b < 256
     cut-3 = omega arith
 
 -- ---- bytes by their places
-
-place-add : (i d : ℕ) → i % 13 + d < 13 → place (i + d) ≡ place i + d
-place-add i d h =
-    let e : (i + d) / 13 ≡ i / 13 = omega arith in
-    omega arith
-
-place-over : (i d : ℕ) → 13 ≤ i % 13 + d → d < 13 → place (i + d) ≡ place i + d + 3
-place-over i d l h =
-    let e : (i + d) / 13 ≡ i / 13 + 1 = omega arith in
-    omega arith
 
 -- the byte at a known octet of a known word
 pub byte-is : (ws : List ℕ) (i k j : ℕ) → j < 4 → place i ≡ 4 * k + j → packedByte ws i ≡ octet (getD ws k 0) j

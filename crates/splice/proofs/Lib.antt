@@ -1,6 +1,7 @@
 pub mod Numbers
 pub mod Seams
 pub mod Standing
+pub mod Cuts
 pub mod Messages
 pub mod Pushed
 pub mod Packs

@@ -3,6 +3,7 @@ use mathlib.Core.Path.{_≡_, refl, sym, _∙_}
 use mathlib.Core.List.{List}
 use Prim.Native.Nat.{ℕ, suc, _+_, _-_, _*_, _/_, _%_, _^_, _≤_, _<_, min}
 use native.Mathlib.Numerals.{add-one}
+use native.Mathlib.Nat.{zero-div}
 use native.Mathlib.Omega.{arith}
 use lib.ListN.{length, drop, getD, List·getD-eq-default}
 use lib.Seq.{take-at}
@@ -17,14 +18,14 @@ use Rattle.ump.proofs.Message.{length-payload}
 use Rattle.ump.proofs.Payload.{payload-more, payload-mono, payload-at}
 use Rattle.splice.specs.Header.{baseOf}
 use Rattle.splice.specs.Accepted.{Accepted}
-use Rattle.splice.specs.Places.{place, next}
+use Rattle.splice.specs.Places.{place, after, octetIn}
 use Rattle.splice.specs.Pushing.{pushWords, pushOctets}
 use Rattle.splice.specs.Seam.{zeroed}
 use Rattle.splice.proofs.Numbers.{words-number}
-use Rattle.splice.proofs.Standing.{place-is, place-mono, place-next}
+use Rattle.splice.proofs.Standing.{quarters, place-is, place-16, place-mono, place-after}
 use Rattle.splice.proofs.Messages.{inside, there, counts, size-is, end-fits, base-is}
 use Rattle.splice.proofs.Seams.{zeroed-is-stored}
-use Rattle.splice.proofs.Pushed.{Pushed, push-start, push-length, push-rest, push-cap, push-step}
+use Rattle.splice.proofs.Pushed.{Pushed, push-start, push-length, push-rest, push-step}
 
 -- the id of the first packet
 abbrev pub idOf : List ℕ → ℕ
@@ -41,22 +42,26 @@ pub record Bounds (w : List ℕ) (len n end base : ℕ) : Type 0 where
   pub shared : base ≡ word (80 + groupAt sysex8 w 0) 0 (idOf w) 0
   pub fits : base < 4278255361
 
--- a byte more is a step nearer to the end
-pub nearer : (top at x rest : ℕ) → at < top → x ≡ next at → (top - x) + rest < (top - at) + rest
-nearer top at x rest h e = omega arith
+-- some bytes more are a step nearer to the end
+pub nearer : (top at x some rest : ℕ) → at < top → 0 < some → x ≡ after at some → (top - x) + rest < (top - at) + rest
+nearer top at x some rest h l e = omega arith
 
--- m bytes are pushed, zeros past the payload's end among them, and the next is read from this byte of this packet, which carries count
-pub record Packs (w : List ℕ) (len n packet count byte m at octets : ℕ) (us : List ℕ) : Type 0 where
+-- bytes whose word ends in the packed message do too
+ends : (m some top : ℕ) → place m % 4 + some ≤ 4 → place m / 4 < 4 * suc (top / 13) → m + some ≤ 13 * suc (top / 13)
+ends m some top h l = omega (arith, place-16 m)
+
+-- m bytes are pushed, zeros past the payload's end among them, and the next is read from octet `from` in this packet, whose payload ends at `to`
+pub record Packs (w : List ℕ) (len n packet from to m at octets : ℕ) (us : List ℕ) : Type 0 where
   pub pushed : Pushed w (payloadOf sysex8 w len) (groupAt sysex8 w 0) (idOf w) m octets us
   pub here : packet < len / 4
-  pub counted : count ≡ sizeAt sysex8 w packet
-  pub within : byte ≤ count
-  pub count-fits : count ≤ 13
-  pub read : min m n ≡ length (payload sysex8 w packet) + byte
+  pub begins : 16 * packet + 3 ≤ from
+  pub counted : to ≡ 16 * packet + 3 + sizeAt sysex8 w packet
+  pub within : from ≤ to
+  pub fits : to ≤ 16 * packet + 16
+  pub read : min m n + (16 * packet + 3) ≡ length (payload sysex8 w packet) + from
   pub long : length us ≡ length w
   pub most : m ≤ 13 * suc ((n - 1) / 13)
   pub stands : at ≡ place m
-  pub octets-fit : octets < 16777216
 
 module _ (w : List ℕ) (len n : ℕ) (ok : Accepted w len n) where
   abbrev bytes : List ℕ
@@ -82,102 +87,100 @@ module _ (w : List ℕ) (len n : ℕ) (ok : Accepted w len n) where
         fits = omega (arith, shared);
       }
 
-  pub pack-start : (count : ℕ) → count ≡ getD w 0 0 / 65536 % 16 - 1 → Packs w len n 0 count 0 0 3 0 w
+  pub pack-start : (to : ℕ) → to ≡ 3 + (getD w 0 0 / 65536 % 16 - 1) → Packs w len n 0 3 to 0 3 0 w
   unfolding payload joined
-  pack-start count e = record {
+  pack-start to e = record {
     pushed = push-start w bytes (groupAt sysex8 w 0) (idOf w) fits;
     here = omega (arith, inside w len n ok);
-    counted = e ∙ sym (size-is w len n ok 0 (omega (arith, inside w len n ok)));
+    begins = omega arith;
+    counted = omega (arith, size-is w len n ok 0 (omega (arith, inside w len n ok)));
     within = omega arith;
-    count-fits = omega (arith, counts w len n ok 0 (inside w len n ok .1 .1 .1));
+    fits = omega (arith, counts w len n ok 0 (inside w len n ok .1 .1 .1));
     read = omega arith;
     long = refl;
     most = omega arith;
     stands = refl;
-    octets-fit = omega arith;
   }
 
-  module _ (packet count byte m at octets : ℕ) (us : List ℕ) (h : Packs w len n packet count byte m at octets us) where
-    more : length (payload sysex8 w (packet + 1)) ≡ length (payload sysex8 w packet) + count
-    more = rw (add-one, h .counted) (payload-more sysex8 w packet (there w len n ok packet (h .here)))
+  module _ (packet from to m at octets : ℕ) (us : List ℕ) (h : Packs w len n packet from to m at octets us) where
+    more : length (payload sysex8 w (packet + 1)) + (16 * packet + 3) ≡ length (payload sysex8 w packet) + to
+    more = omega (arith, h .counted, rw (← add-one packet) at (payload-more sysex8 w packet (there w len n ok packet (h .here))))
 
-    step : (base x : ℕ) → base ≡ word (80 + groupAt sysex8 w 0) 0 (idOf w) 0 → at / 4 < 4 * suc ((n - 1) / 13) → x ≡ getD bytes m 0 → x < 256
-        → Pushed w bytes (groupAt sysex8 w 0) (idOf w) (m + 1) (pushOctets at octets x) (pushWords base n at octets x us)
-    step base x shared lt e small =
-        rw (ok .sized, h .stands)
-        (push-step w bytes (groupAt sysex8 w 0) (idOf w) fits m octets us (h .pushed) base x shared (rw (words-are, ← h .stands) lt) e small)
+    -- byte b of the packet
+    byte-is : m < n → (i b : ℕ) → from + i ≡ 16 * packet + 3 + b → from + i < to → octetIn us (from + i) ≡ getD bytes (m + i) 0
+    byte-is lt i b s l =
+        let e : m + i ≡ length (payload sysex8 w packet) + b = omega (arith, h .read) in
+        let le : m ≤ 13 * packet + b = omega (arith, length-payload sysex8 w packet) in
+        let k = 4 * packet + (b + 3) / 4 in
+        let q = quarters (from + i) k ((b + 3) % 4) (omega arith) (omega arith) in
+        let far : place (13 * packet + b) / 4 ≡ k = omega (arith, h .fits) in
+        let old : getD us k 0 ≡ getD w k 0 = push-rest w bytes (groupAt sysex8 w 0) (idOf w) fits m octets us (h .pushed) k (rw (← far) (place-mono m (13 * packet + b) le)) in
+        rw (q .0, q .1, old, e) (sym (payload-at sysex8 w packet (len / 4) b (h .here) (there w len n ok packet (h .here)) (omega (arith, h .counted))))
 
-    -- a zero past the payload's end
-    pub pad-step : (base : ℕ) → base ≡ word (80 + groupAt sysex8 w 0) 0 (idOf w) 0 → n ≤ m → at / 4 < 4 * suc ((n - 1) / 13)
-        → Packs w len n packet count byte (m + 1) (next at) (pushOctets at octets 0) (pushWords base n at octets 0 us)
-    pad-step base shared le lt =
-        let p = step base 0 shared lt (sym (List·getD-eq-default bytes 0 (omega (arith, ok .sized)))) (omega arith) in
-        record {
-          pushed = p;
-          here = h .here;
-          counted = h .counted;
-          within = h .within;
-          count-fits = h .count-fits;
-          read = omega (arith, h .read);
-          long = push-length w bytes (groupAt sysex8 w 0) (idOf w) fits (m + 1) _ _ p;
-          most = omega (arith, h .stands, place-is m);
-          stands = rw (h .stands) (sym (place-next m));
-          octets-fit = push-cap w bytes (groupAt sysex8 w 0) (idOf w) fits (m + 1) _ _ p;
-        }
+    -- some bytes more
+    module _ (base four some : ℕ) (shared : base ≡ word (80 + groupAt sysex8 w 0) 0 (idOf w) 0) (small : four < 2 ^ 32)
+        (some-there : 0 < some) (in-word : at % 4 + some ≤ 4) (reach : at / 4 < 4 * suc ((n - 1) / 13)) where
+      step : (x : ℕ) → ((i : ℕ) → i < some → octet four i ≡ getD bytes (m + i) 0) → 16 * packet + 3 ≤ x → x ≤ to → min (m + some) n + (16 * packet + 3) ≡ length (payload sysex8 w packet) + x
+          → Packs w len n packet x to (m + some) (after at some) (pushOctets at octets four some) (pushWords base n at octets four some us)
+      step x same low high read =
+          let p : Pushed w bytes (groupAt sysex8 w 0) (idOf w) (m + some) (pushOctets at octets four some) (pushWords base n at octets four some us) =
+          rw (ok .sized, h .stands)
+          (push-step w bytes (groupAt sysex8 w 0) (idOf w) fits m octets us (h .pushed) base four some shared some-there (rw (← h .stands) in-word) small same (rw (words-are, ← h .stands) reach)) in
+          record {
+            pushed = p;
+            here = h .here;
+            begins = low;
+            counted = h .counted;
+            within = high;
+            fits = h .fits;
+            read = read;
+            long = push-length w bytes (groupAt sysex8 w 0) (idOf w) fits (m + some) _ _ p;
+            most = ends m some (n - 1) (rw (← h .stands) in-word) (rw (← h .stands) reach);
+            stands = rw (h .stands) (sym (place-after m some (rw (← h .stands) in-word)));
+          }
+
+      -- the next of the packet
+      pub bytes-step : ((i : ℕ) → i < some → octet four i ≡ octetIn us (from + i)) → m < n → from + some ≤ to
+          → Packs w len n packet (from + some) to (m + some) (after at some) (pushOctets at octets four some) (pushWords base n at octets four some us)
+      bytes-step same lt l =
+          step (from + some) (λ i k. same i k ∙ byte-is lt i (from + i - (16 * packet + 3)) (omega (arith, h .begins)) (omega arith)) (omega (arith, h .begins)) l
+          (omega (arith, more, payload-mono sysex8 w (packet + 1) (len / 4) (omega (arith, h .here)), ok .sized, h .read))
+
+    -- zeros past the payload's end
+    pub pad-step : (base some : ℕ) → base ≡ word (80 + groupAt sysex8 w 0) 0 (idOf w) 0 → 0 < some → at % 4 + some ≤ 4 → at / 4 < 4 * suc ((n - 1) / 13) → n ≤ m
+        → Packs w len n packet from to (m + some) (after at some) (pushOctets at octets 0 some) (pushWords base n at octets 0 some us)
+    pad-step base some shared some-there in-word reach le =
+        step base 0 some shared (omega arith) some-there in-word reach from
+        (λ i k. rw zero-div (sym (List·getD-eq-default bytes 0 (omega (arith, ok .sized)))))
+        (h .begins) (h .within) (omega (arith, h .read))
 
     -- the next packet
-    pub skip-here : m < n → count ≤ byte → packet + 1 < len / 4
+    pub skip-here : m < n → to ≤ from → packet + 1 < len / 4
     skip-here lt full = go (side (packet + 1) (len / 4))
       where
         go : Side (packet + 1) (len / 4) → packet + 1 < len / 4
         go (under l e) = l
         go (over l e) = absurd (omega (arith, payload-mono sysex8 w (len / 4) (packet + 1) l, more, ok .sized, h .read, h .within))
 
-    pub skip-first : m < n → count ≤ byte → getD us (4 * (packet + 1)) 0 ≡ getD w (4 * (packet + 1)) 0
+    pub skip-first : m < n → to ≤ from → getD us (4 * (packet + 1)) 0 ≡ getD w (4 * (packet + 1)) 0
     skip-first lt full =
         let le : m ≤ 13 * (packet + 1) = omega (arith, length-payload sysex8 w (packet + 1), more, h .read, h .within) in
         push-rest w bytes (groupAt sysex8 w 0) (idOf w) fits m octets us (h .pushed) (4 * (packet + 1)) (omega (arith, place-mono m (13 * (packet + 1)) le))
 
-    pub skip-step : (x : ℕ) → x ≡ getD us (4 * (packet + 1)) 0 / 65536 % 16 - 1 → m < n → count ≤ byte → Packs w len n (packet + 1) x 0 m at octets us
-    skip-step x e lt full = record {
-      pushed = h .pushed;
-      here = skip-here lt full;
-      counted = rw (e, skip-first lt full) (sym (size-is w len n ok (packet + 1) (skip-here lt full)));
-      within = omega arith;
-      count-fits = rw (e, skip-first lt full) (omega (arith, counts w len n ok (packet + 1) (skip-here lt full)));
-      read = omega (arith, more, h .read, h .within);
-      long = h .long;
-      most = h .most;
-      stands = h .stands;
-      octets-fit = h .octets-fit;
-    }
-
-    -- the next byte of the packet
-    pub byte-is : m < n → byte < count → octet (getD us (4 * packet + (byte + 3) / 4) 0) ((byte + 3) % 4) ≡ getD bytes m 0
-    byte-is lt l =
-        let e : m ≡ length (payload sysex8 w packet) + byte = omega (arith, h .read) in
-        let le : m ≤ 13 * packet + byte = omega (arith, length-payload sysex8 w packet) in
-        let far : place (13 * packet + byte) / 4 ≡ 4 * packet + (byte + 3) / 4 = omega (arith, h .count-fits) in
-        let old : getD us (4 * packet + (byte + 3) / 4) 0 ≡ getD w (4 * packet + (byte + 3) / 4) 0 =
-        push-rest w bytes (groupAt sysex8 w 0) (idOf w) fits m octets us (h .pushed) (4 * packet + (byte + 3) / 4) (rw (← far) (place-mono m (13 * packet + byte) le)) in
-        rw (old, e) (sym (payload-at sysex8 w packet (len / 4) byte (h .here) (there w len n ok packet (h .here)) (rw (← h .counted) l)))
-
-    pub byte-step : (base x : ℕ) → base ≡ word (80 + groupAt sysex8 w 0) 0 (idOf w) 0 → x ≡ octet (getD us (4 * packet + (byte + 3) / 4) 0) ((byte + 3) % 4) → x < 256
-        → m < n → byte < count → at / 4 < 4 * suc ((n - 1) / 13)
-        → Packs w len n packet count (byte + 1) (m + 1) (next at) (pushOctets at octets x) (pushWords base n at octets x us)
-    byte-step base x shared e small lt l reach =
-        let p = step base x shared reach (e ∙ byte-is lt l) small in
+    pub skip-step : (x : ℕ) → x ≡ getD us (4 * (packet + 1)) 0 / 65536 % 16 - 1 → m < n → to ≤ from → Packs w len n (packet + 1) (16 * (packet + 1) + 3) (16 * (packet + 1) + 3 + x) m at octets us
+    skip-step x e lt full =
+        let size : x ≡ getD w (4 * (packet + 1)) 0 / 65536 % 16 - 1 = rw (← skip-first lt full) e in
         record {
-          pushed = p;
-          here = h .here;
-          counted = h .counted;
+          pushed = h .pushed;
+          here = skip-here lt full;
+          begins = omega arith;
+          counted = omega (arith, size-is w len n ok (packet + 1) (skip-here lt full));
           within = omega arith;
-          count-fits = h .count-fits;
-          read = omega (arith, h .read);
-          long = push-length w bytes (groupAt sysex8 w 0) (idOf w) fits (m + 1) _ _ p;
-          most = omega arith;
-          stands = rw (h .stands) (sym (place-next m));
-          octets-fit = push-cap w bytes (groupAt sysex8 w 0) (idOf w) fits (m + 1) _ _ p;
+          fits = omega (arith, counts w len n ok (packet + 1) (skip-here lt full));
+          read = omega (arith, more, h .read, h .within);
+          long = h .long;
+          most = h .most;
+          stands = h .stands;
         }
 
     -- all are pushed

@@ -1,24 +1,25 @@
--- The laws of a loop that pushes a payload byte by byte into packed words. Assumes nothing.
+-- The laws of a loop that pushes a payload, some bytes at a time, into packed words. Assumes nothing.
 use mathlib.Core.Path.{_≡_, refl, sym, ap, _∙_}
 use mathlib.Core.Bool.{Bool, true, false, cond}
 use mathlib.Core.List.{List, [], _∷_, _++_}
 use Prim.Native.Nat.{ℕ, zero, suc, _+_, _-_, _*_, _/_, _%_, _^_, _≤_, _<_}
-use native.Mathlib.Numerals.{add-one}
+use native.Mathlib.Nat.{add-zero, add-suc}
 use native.Mathlib.Omega.{arith}
 use lib.Dec.{eqb}
 use lib.ListN.{length, drop, getD, set, length-append, length-drop, List·getD-append}
-use lib.Pow.{pow-pos, pow-mono, pow-add}
+use lib.Pow.{pow-pos, pow-mono}
 use borrow.Author.Tests.{eq-eqb, ne-eqb, eqb-true, eqb-false}
-use Rattle.ump.specs.Word.{word}
+use Rattle.ump.specs.Word.{octet, word}
 use Rattle.ump.specs.Packet.{sysex8}
 use Rattle.ump.specs.Packing.{wordsFor, pack}
 use Rattle.ump.proofs.Packing.{length-pack}
 use Rattle.ump.proofs.Positions.{wordAt, getD-pack, word-body, word-head8}
 use Rattle.splice.specs.Header.{firstWordOf}
-use Rattle.splice.specs.Places.{place}
+use Rattle.splice.specs.Places.{place, cut}
 use Rattle.splice.specs.Pushing.{pushWord, pushWords, pushOctets}
 use Rattle.splice.specs.Seam.{seam}
-use Rattle.splice.proofs.Standing.{place-is, place-16, next-word, next-octet, before-word, word-begins}
+use Rattle.splice.proofs.Standing.{place-is, place-16, place-along, next-word, next-octet, before-word, word-begins}
+use Rattle.splice.proofs.Cuts.{cut-none, cut-more, cut-fits}
 use Rattle.splice.proofs.Messages.{head-word}
 use Rattle.splice.proofs.Seams.{length-seam, seam-from, seam-up}
 
@@ -26,7 +27,7 @@ use Rattle.splice.proofs.Seams.{length-seam, seam-from, seam-up}
 
 unfoldable pub pending : (ℕ → ℕ) → ℕ → ℕ
 pending f zero = 0
-pending f (suc m) = pushOctets (place m) (pending f m) (f m)
+pending f (suc m) = cond (eqb (place m % 4) 3) 0 (pending f m * 256 + f m)
 
 -- a test of the source, with what it shows
 pub data Test (x y : ℕ) : Type 0 where
@@ -41,12 +42,12 @@ test x y = go (eqb x y) refl
     go false e = isnt (eqb-false x y e) e
 
 pending-none : (f : ℕ → ℕ) (m : ℕ) → place m % 4 ≡ 0 → pending f m ≡ 0
-unfolding pending pushOctets
+unfolding pending
 pending-none f zero h = refl
 pending-none f (suc m) h = simp (eq-eqb _ _ (before-word m h))
 
 pending-more : (f : ℕ → ℕ) (m : ℕ) → (place m % 4 ≡ 3 → ⊥) → pending f (suc m) ≡ pending f m * 256 + f m
-unfolding pending pushOctets
+unfolding pending
 pending-more f m h = simp (ne-eqb _ _ h)
 
 -- the word that byte m + 3 completes
@@ -59,33 +60,41 @@ pending-word f m h =
 pending-four : (f : ℕ → ℕ) (a b c m : ℕ) → b ≡ suc a → c ≡ suc b → m ≡ suc c → place a % 4 ≡ 0 → pending f m * 256 + f m ≡ word (f a) (f b) (f c) (f m)
 pending-four f a b c m eb ec em h = rw (em, ec, eb) (pending-word f a h)
 
-module _ (base g id n : ℕ) (f : ℕ → ℕ) (shared : base ≡ word (80 + g) 0 id 0) where
-  -- the word that byte m completes is the packed message's
-  word-done : (m : ℕ) → place m % 4 ≡ 3 → pushWord base n (place m) (pending f m) (f m) ≡ wordAt sysex8 g (id ∷ []) n f (place m / 4)
-  unfolding pushWord
-  word-done m h = go (test (place m % 16) 3)
-    where
-      go : Test (place m % 16) 3
-          → cond (eqb (place m % 16) 3) (firstWordOf base n (place m / 16) + f m) (pending f m * 256 + f m) ≡ wordAt sysex8 g (id ∷ []) n f (place m / 4)
-      go (is z e) =
-          let k : place m / 4 / 4 ≡ place m / 16 = omega (arith, place-is m) in
-          let first : place m / 4 % 4 ≡ 0 = omega (arith, place-is m) in
-          let b : 13 * (place m / 16) ≡ m = omega (arith, place-16 m) in
-          rw (e, word-head8 g id n f (place m / 4) first, k, b) (rw b at (head-word base g id n (place m / 16) (f m) shared))
-      go (isnt z e) =
-          let r : 0 < m % 13 = omega (arith, place-16 m) in
-          let p : place m / 4 / 4 ≡ m / 13 = omega (arith, place-is m) in
-          let q : 0 < place m / 4 % 4 = omega (arith, place-is m) in
-          let b : m - 3 + 3 ≡ 13 * (place m / 4 / 4) + 4 * (place m / 4 % 4) = omega (arith, place-is m, word-begins m h r .0) in
-          let l : m - 3 + 3 ≡ m = omega (arith, word-begins m h r .0) in
-          rw (e, word-body sysex8 g (id ∷ []) n f (place m / 4) (m - 3) q b, l)
-          (pending-four f (m - 3) (m - 3 + 1) (m - 3 + 2) m (omega arith) (omega arith) (omega arith) (word-begins m h r .1))
+-- some bytes, the first octets of a word, on the way to the end of the word that byte m is to join
+module _ (f : ℕ → ℕ) (m four : ℕ) (cap : pending f m < 2 ^ (8 * (place m % 4))) (small : four < 2 ^ 32) where
+  joins : (i : ℕ) → place m % 4 + i < 4 → octet four i ≡ f (m + i) → pending f (m + i) ≡ cut (pending f m) four i
+      → cut (pending f m) four (suc i) ≡ pending f (m + i) * 256 + f (m + i)
+  joins i h e r =
+      let k : 8 * (place m % 4) ≤ (3 - i) * 8 = omega arith in
+      rw (r, ← e) (cut-more (pending f m) four small i (omega arith) (omega (arith, pow-mono k)))
 
--- one octet more
-cap-next : (x b j : ℕ) → x < 2 ^ (8 * j) → b < 256 → x * 256 + b < 2 ^ (8 * (j + 1))
-cap-next x b j h l =
-    let e : 8 * (j + 1) ≡ 8 * j + 8 = omega arith in
-    rw (e, pow-add) (omega arith)
+  pending-run : (i : ℕ) → place m % 4 + i < 4 → ((k : ℕ) → k < i → octet four k ≡ f (m + k)) → pending f (m + i) ≡ cut (pending f m) four i
+  pending-run zero h e =
+      let k : 8 * (place m % 4) ≤ 32 = omega arith in
+      rw add-zero (sym (cut-none (pending f m) four small (omega (arith, pow-mono k))))
+  pending-run (suc i) h e =
+      rw add-suc
+      (pending-more f (m + i) (λ z. omega (arith, place-along m i (omega arith)))
+      ∙ sym (joins i (omega arith) (e i (omega arith)) (pending-run i (omega arith) (λ k l. e k (omega arith)))))
+
+module _ (base g id n : ℕ) (f : ℕ → ℕ) (shared : base ≡ word (80 + g) 0 id 0) where
+  -- the word that byte m completes is the packed message's: a packet's first, or another
+  first-done : (m : ℕ) → place m % 16 ≡ 3 → firstWordOf base n (place m / 16) + f m ≡ wordAt sysex8 g (id ∷ []) n f (place m / 4)
+  first-done m h =
+      let k : place m / 4 / 4 ≡ place m / 16 = omega (arith, place-is m) in
+      let first : place m / 4 % 4 ≡ 0 = omega (arith, place-is m) in
+      let b : 13 * (place m / 16) ≡ m = omega (arith, place-16 m) in
+      rw (word-head8 g id n f (place m / 4) first, k, b) (rw b at (head-word base g id n (place m / 16) (f m) shared))
+
+  other-done : (m : ℕ) → place m % 4 ≡ 3 → (place m % 16 ≡ 3 → ⊥) → pending f m * 256 + f m ≡ wordAt sysex8 g (id ∷ []) n f (place m / 4)
+  other-done m h z =
+      let r : 0 < m % 13 = omega (arith, place-16 m) in
+      let p : place m / 4 / 4 ≡ m / 13 = omega (arith, place-is m) in
+      let q : 0 < place m / 4 % 4 = omega (arith, place-is m) in
+      let b : m - 3 + 3 ≡ 13 * (place m / 4 / 4) + 4 * (place m / 4 % 4) = omega (arith, place-is m, word-begins m h r .0) in
+      let l : m - 3 + 3 ≡ m = omega (arith, word-begins m h r .0) in
+      rw (word-body sysex8 g (id ∷ []) n f (place m / 4) (m - 3) q b, l)
+      (pending-four f (m - 3) (m - 3 + 1) (m - 3 + 2) m (omega arith) (omega arith) (omega arith) (word-begins m h r .1))
 
 -- ---- the words once the payload bs is packed over w
 
@@ -120,28 +129,61 @@ module _ (w bs : List ℕ) (g id : ℕ) (room : wordsFor sysex8 (length bs) ≤ 
     pub push-rest : (k : ℕ) → place m / 4 ≤ k → getD us k 0 ≡ getD w k 0
     push-rest k le = ap (λ (l : List ℕ). getD l k 0) (h .words) ∙ seam-from (place m / 4) (packed w bs g id) w k length-packed le
 
-    pub push-cap : octets < 16777216
-    push-cap =
-        let j : 8 * (place m % 4) ≤ 24 = omega arith in
-        omega (arith, h .cap, pow-mono j)
+    module _ (base four some : ℕ) (shared : base ≡ word (80 + g) 0 id 0) (least : 0 < some) (most : place m % 4 + some ≤ 4) (small : four < 2 ^ 32)
+        (same : (i : ℕ) → i < some → octet four i ≡ getD bs (m + i) 0) where
+      abbrev f : ℕ → ℕ
+      f i = getD bs i 0
 
-    pub push-step : (base b : ℕ) → base ≡ word (80 + g) 0 id 0 → place m / 4 < wordsFor sysex8 (length bs) → b ≡ getD bs m 0 → b < 256
-        → Pushed w bs g id (m + 1) (pushOctets (place m) octets b) (pushWords base (length bs) (place m) octets b us)
-    unfolding pushOctets pushWords pending
-    push-step base b shared le same small = rw (add-one m) (go (test (place m % 4) 3))
-      where
-        go : Test (place m % 4) 3
-            → Pushed w bs g id (suc m) (cond (eqb (place m % 4) 3) 0 (octets * 256 + b)) (cond (eqb (place m % 4) 3) (set us (place m / 4) (pushWord base (length bs) (place m) octets b)) us)
-        go (is o e) =
-            let word-is : pushWord base (length bs) (place m) octets b ≡ getD (packed w bs g id) (place m / 4) 0 =
-            rw (h .rest, same) (word-done base g id (length bs) (λ i. getD bs i 0) shared m o) ∙ sym (getD-packed (place m / 4) le) in
-            record {
-              words = rw (e, word-is, h .words, next-word m o) (seam-up (place m / 4) (packed w bs g id) w (omega (arith, length-packed)) (omega arith));
-              rest = simp e;
-              cap = rw e (pow-pos (8 * (place (suc m) % 4)));
-            }
-        go (isnt o e) = record {
-          words = rw (e, next-octet m o .0) (h .words);
-          rest = simp e (rw (← same, ← h .rest) refl);
-          cap = rw (e, next-octet m o .1) (cap-next octets b (place m % 4) (h .cap) small);
-        }
+      -- all of them but the last
+      abbrev but : ℕ
+      but = some - 1
+
+      cap : pending f m < 2 ^ (8 * (place m % 4))
+      cap = rw (← h .rest) (h .cap)
+
+      module _ (o : place m % 4 + some ≡ 4) where
+        last-there : (place (m + but) / 4 ≡ place m / 4) × (place (m + but) % 4 ≡ 3)
+        last-there =
+            let l = place-along m but (omega arith) in
+            (l .0, omega (arith, l .1))
+
+        word-done : pushWord base (length bs) (place m) octets four some ≡ wordAt sysex8 g (id ∷ []) (length bs) f (place m / 4)
+        unfolding pushWord
+        word-done = go (test (place m % 16) 3)
+          where
+            go : Test (place m % 16) 3
+                → cond (eqb (place m % 16) 3) (firstWordOf base (length bs) (place m / 16) + four / 16777216) (cut octets four some) ≡ wordAt sysex8 g (id ∷ []) (length bs) f (place m / 4)
+            go (is z e) =
+                let b : four / 16777216 ≡ f m = omega (arith, rw add-zero at (same 0 least)) in
+                rw (e, b) (first-done base g id (length bs) f shared m z)
+            go (isnt z e) =
+                let one : some ≡ suc but = omega arith in
+                let run : pending f (m + but) ≡ cut (pending f m) four but = pending-run f m four cap small but (omega arith) (λ k l. same k (omega arith)) in
+                let other : place (m + but) % 16 ≡ 3 → ⊥ = λ x. omega (arith, place-16 m, place-16 (m + but), last-there) in
+                rw (e, h .rest, one, joins f m four cap small but (omega arith) (same but (omega arith)) run)
+                (rw (last-there .0) at (other-done base g id (length bs) f shared (m + but) (last-there .1) other))
+
+      pub push-step : place m / 4 < wordsFor sysex8 (length bs)
+          → Pushed w bs g id (m + some) (pushOctets (place m) octets four some) (pushWords base (length bs) (place m) octets four some us)
+      unfolding pushOctets pushWords pending
+      push-step le = go (test (place m % 4 + some) 4)
+        where
+          go : Test (place m % 4 + some) 4
+              → Pushed w bs g id (m + some) (cond (eqb (place m % 4 + some) 4) 0 (cut octets four some)) (cond (eqb (place m % 4 + some) 4) (set us (place m / 4) (pushWord base (length bs) (place m) octets four some)) us)
+          go (is o e) =
+              let one : m + some ≡ suc (m + but) = omega arith in
+              let there = last-there o in
+              let word-is : pushWord base (length bs) (place m) octets four some ≡ getD (packed w bs g id) (place m / 4) 0 = word-done o ∙ sym (getD-packed (place m / 4) le) in
+              rw one
+              record {
+                words = rw (e, word-is, h .words, next-word (m + but) (there .1), there .0) (seam-up (place m / 4) (packed w bs g id) w (omega (arith, length-packed)) (omega arith));
+                rest = simp (e, eq-eqb _ _ (there .1));
+                cap = rw e (pow-pos (8 * (place (suc (m + but)) % 4)));
+              }
+          go (isnt o e) =
+              let there = place-along m some (omega arith) in
+              record {
+                words = rw (e, there .0) (h .words);
+                rest = rw (e, h .rest) (sym (pending-run f m four cap small some (omega arith) same));
+                cap = rw (e, there .1) (cut-fits octets four small (place m % 4) some (omega arith) (h .cap));
+              }

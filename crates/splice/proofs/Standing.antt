@@ -2,7 +2,7 @@
 use mathlib.Core.Path.{_≡_, ap}
 use Prim.Native.Nat.{ℕ, suc, _+_, _-_, _*_, _/_, _%_, _≤_, _<_}
 use native.Mathlib.Omega.{arith}
-use Rattle.splice.specs.Places.{place, next}
+use Rattle.splice.specs.Places.{place, after}
 
 pub quarters : (x q r : ℕ) → r < 4 → x ≡ 4 * q + r → (x / 4 ≡ q) × (x % 4 ≡ r)
 quarters x q r h e =
@@ -22,12 +22,40 @@ place-mono i j h =
     let d : i / 13 ≤ j / 13 = omega arith in
     omega arith
 
-pub place-next : (m : ℕ) → place (m + 1) ≡ next (place m)
-place-next m =
-    let q : place m % 16 ≡ 3 + m % 13 = place-16 m .1 in
-    let d : place m % 16 / 15 ≡ (3 + m % 13) / 15 = ap (λ (x : ℕ). x / 15) q in
-    let e : (m + 1) / 13 ≡ m / 13 + (3 + m % 13) / 15 = omega arith in
+-- some bytes on in the packet, past its end, and to the end of the word
+pub place-add : (i d : ℕ) → i % 13 + d < 13 → place (i + d) ≡ place i + d
+place-add i d h =
+    let e : (i + d) / 13 ≡ i / 13 = omega arith in
     omega arith
+
+pub place-over : (i d : ℕ) → 13 ≤ i % 13 + d → d < 13 → place (i + d) ≡ place i + d + 3
+place-over i d l h =
+    let e : (i + d) / 13 ≡ i / 13 + 1 = omega arith in
+    omega arith
+
+sixteenth : (x r some : ℕ) → x % 16 ≡ 3 + r → x % 4 + some ≤ 4 → r + some ≤ 13
+sixteenth x r some e h = omega arith
+
+thirteenth : (m q r some : ℕ) → m ≡ 13 * q + r → r < 13 → r + some ≤ 13 → (m + some) / 13 ≡ q + (3 + r + some) / 16
+thirteenth m q r some e l h = omega arith
+
+sums : (m q e some : ℕ) → m + some + 3 * (q + e + 1) ≡ m + 3 * (q + 1) + some + e * 3
+sums m q e some = omega arith
+
+pub place-after : (m some : ℕ) → place m % 4 + some ≤ 4 → place (m + some) ≡ after (place m) some
+place-after m some h =
+    let q : place m % 16 ≡ 3 + m % 13 = place-16 m .1 in
+    let d : (place m % 16 + some) / 16 ≡ (3 + m % 13 + some) / 16 = ap (λ (x : ℕ). (x + some) / 16) q in
+    let e : (m + some) / 13 ≡ m / 13 + (3 + m % 13 + some) / 16 =
+    thirteenth m (m / 13) (m % 13) some (omega arith) (omega arith) (sixteenth (place m) (m % 13) some q h) in
+    rw (e, d) (sums m (m / 13) ((3 + m % 13 + some) / 16) some)
+
+-- bytes of one word
+pub place-along : (m i : ℕ) → place m % 4 + i < 4 → (place (m + i) / 4 ≡ place m / 4) × (place (m + i) % 4 ≡ place m % 4 + i)
+place-along m i h =
+    let r : m % 13 + i < 13 = omega (arith, place-16 m) in
+    let e : place (m + i) ≡ 4 * (place m / 4) + (place m % 4 + i) = omega (arith, place-add m i r) in
+    quarters (place (m + i)) (place m / 4) (place m % 4 + i) h e
 
 -- from the last octet of a word to the next word, and else on in the word
 pub next-word : (m : ℕ) → place m % 4 ≡ 3 → place (suc m) / 4 ≡ suc (place m / 4)

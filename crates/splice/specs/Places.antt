@@ -8,13 +8,17 @@ use Rattle.ump.specs.Word.{octet}
 abbrev pub place : ℕ → ℕ
 place i = i + 3 * (i / 13 + 1)
 
--- the octet after that of a byte: past the three of a header, where a packet ends
-abbrev pub next : ℕ → ℕ
-next at = at + 1 + at % 16 / 15 * 3
+-- the octet some bytes on from that of a byte: past the three of a header, where a packet ends
+abbrev pub after : ℕ → ℕ → ℕ
+after at some = at + some + (at % 16 + some) / 16 * 3
+
+-- octet `at` of the words
+abbrev pub octetIn : List ℕ → ℕ → ℕ
+octetIn words at = octet (getD words (at / 4) 0) (at % 4)
 
 -- byte i
 unfoldable pub packedByte : List ℕ → ℕ → ℕ
-packedByte words i = octet (getD words (place i / 4) 0) (place i % 4)
+packedByte words i = octetIn words (place i)
 
 -- the four octets of two words from octet i on
 abbrev pub cut : ℕ → ℕ → ℕ → ℕ

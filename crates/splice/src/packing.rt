@@ -1,6 +1,6 @@
 // The fewest-packet form.
 ghost use mathlib.Core.Path.{_≡_};
-ghost use Prim.Native.Nat.{suc, _+_, _-_, _*_, _/_, _%_, _≤_, _<_};
+ghost use Prim.Native.Nat.{suc, _+_, _-_, _*_, _/_, _%_, _≤_, _<_, min};
 ghost use lib.ListN.{length};
 ghost use Rattle.ump.specs.Packet.{sysex8};
 ghost use Rattle.ump.specs.Packing.{wordsFor};
@@ -11,8 +11,9 @@ ghost use Rattle.splice.specs.Seam.{zeroed};
 ghost use Rattle.splice.specs.Pushing.{pushWords, pushOctets};
 use super::header::base_of;
 use super::header::head;
-use super::places::next_place;
-use super::places::octet_of;
+use super::places::cut_at;
+use super::places::octets_from;
+use super::places::place_after;
 
 // The words that the fewest-packet form of a payload of `size` bytes takes.
 pub(crate) fn words_needed(size: usize) -> usize
@@ -39,7 +40,7 @@ pub(crate) fn zero(words: &mut [u32], from: usize, to: usize)
     }
 }
 
-// Puts a payload byte at octet `at` of the packed words: a word that it completes is stored, the octets of another are handed back.
+// Puts the first `some` octets of `four`, payload bytes, at octet `at` of the packed words: a word that they complete is stored, the octets of another are handed back.
 fn push(
     words: &mut [u32],
     base: u32,
@@ -47,20 +48,21 @@ fn push(
     end: usize,
     at: usize,
     octets: u32,
-    byte: u8,
+    four: u32,
+    some: usize,
 ) -> u32
-    requires { ⌜ (base < 4278255361) × ((end ≡ 4 * suc ((size - 1) / 13)) × ((at / 4 < end) × (octets < 16777216))) ⌝ }
-    requires { ⌜ end ≤ length (now words) ⌝ }
-    ensures { λ r. ⌜ (r ≡ pushOctets at octets byte) × (now (words .exit) ≡ pushWords base size at octets byte (now (words .entry))) ⌝ }
+    requires { ⌜ (base < 4278255361) × ((end ≡ 4 * suc ((size - 1) / 13)) × (at / 4 < end)) ⌝ }
+    requires { ⌜ (0 < some) × ((at % 4 + some ≤ 4) × (end ≤ length (now words))) ⌝ }
+    ensures { λ r. ⌜ (r ≡ pushOctets at octets four some) × (now (words .exit) ≡ pushWords base size at octets four some (now (words .entry))) ⌝ }
 {
     let k = at / 4;
     if at % 16 == 3 {
-        let first = head(base, size, end, k) + byte as u32;
+        let first = head(base, size, end, k) + four / 0x100_0000;
         words[k] = first;
         return 0;
     }
-    let word = octets * 256 + byte as u32;
-    if at % 4 == 3 {
+    let word = cut_at(octets, four, some);
+    if at % 4 + some == 4 {
         words[k] = word;
         return 0;
     }
@@ -75,7 +77,17 @@ pub(crate) fn carried_by(first: u32) -> usize
     (first / 0x1_0000 % 16) as usize - 1
 }
 
-// Rewrites a valid message of `size` payload bytes in fewest-packet form, byte by byte, and answers its new length.
+// The smaller number.
+fn least(a: usize, b: usize) -> usize
+    ensures { λ r. ⌜ r ≡ min a b ⌝ }
+{
+    if a < b {
+        return a;
+    }
+    b
+}
+
+// Rewrites a valid message of `size` payload bytes in fewest-packet form, as many bytes at once as stand in one packet and go into one word, and answers its new length.
 pub(crate) fn pack(words: &mut [u32], length: usize, size: usize) -> usize
     requires { ⌜ Accepted (now words) length size ⌝ }
     ensures { λ r. ⌜ (r ≡ wordsFor sysex8 size) × (now (words .exit) ≡ rewritten sysex8 (now (words .entry)) length (payloadOf sysex8 (now (words .entry)) length)) ⌝ }
@@ -83,30 +95,31 @@ pub(crate) fn pack(words: &mut [u32], length: usize, size: usize) -> usize
     let base = base_of(words[0]);
     let end = words_needed(size);
     let mut packet = 0;
-    let mut count = carried_by(words[0]);
-    let mut byte = 0;
+    let mut from = 3;
+    let mut to = 3 + carried_by(words[0]);
     let mut done = 0;
     let mut at = 3;
     let mut octets = 0;
     while at < 4 * end {
+        let room = 4 - at % 4;
         if size <= done {
-            octets = push(words, base, size, end, at, octets, 0);
-            at = next_place(at);
-            done += 1;
+            octets = push(words, base, size, end, at, octets, 0, room);
+            at = place_after(at, room);
+            done += room;
             continue;
         }
-        if count <= byte {
+        if to <= from {
             packet += 1;
-            byte = 0;
-            count = carried_by(words[4 * packet]);
+            from = 16 * packet + 3;
+            to = from + carried_by(words[4 * packet]);
             continue;
         }
-        let from = byte + 3;
-        let value = octet_of(words[4 * packet + from / 4], from % 4);
-        octets = push(words, base, size, end, at, octets, value);
-        at = next_place(at);
-        done += 1;
-        byte += 1;
+        let some = least(room, to - from);
+        let four = octets_from(words, from, some);
+        octets = push(words, base, size, end, at, octets, four, some);
+        at = place_after(at, some);
+        done += some;
+        from += some;
     }
     zero(words, end, length);
     end

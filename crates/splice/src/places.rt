@@ -1,9 +1,9 @@
 // Where payload bytes stand.
 ghost use mathlib.Core.Path.{_≡_};
-ghost use Prim.Native.Nat.{_+_, _/_, _<_};
+ghost use Prim.Native.Nat.{ℕ, _+_, _-_, _/_, _≤_, _<_};
 ghost use lib.ListN.{length, getD};
 ghost use Rattle.ump.specs.Word.{octet, word};
-ghost use Rattle.splice.specs.Places.{place, next, packedByte, cut};
+ghost use Rattle.splice.specs.Places.{place, after, octetIn, packedByte, cut};
 
 // Octet `i` of a word.
 pub(crate) fn octet_of(word: u32, i: usize) -> u8
@@ -20,15 +20,12 @@ pub(crate) fn word_of(a: u8, b: u8, c: u8, d: u8) -> u32
     a as u32 * 0x100_0000 + b as u32 * 0x1_0000 + c as u32 * 0x100 + d as u32
 }
 
-// The octet of the byte after the one at octet `at`.
-pub(crate) fn next_place(at: usize) -> usize
-    requires { ⌜ at < 65536 ⌝ }
-    ensures { λ r. ⌜ r ≡ next at ⌝ }
+// The octet of the byte `some` after the one at octet `at`, no later than the first of the next word.
+pub(crate) fn place_after(at: usize, some: usize) -> usize
+    requires { ⌜ (at < 65536) × (some ≤ 4) ⌝ }
+    ensures { λ r. ⌜ r ≡ after at some ⌝ }
 {
-    if at % 16 == 15 {
-        return at + 4;
-    }
-    at + 1
+    at + some + (at % 16 + some) / 16 * 3
 }
 
 // Payload byte `i` of a message that has 13 in every packet but the last.
@@ -41,15 +38,24 @@ pub(crate) fn byte_at(words: &[u32], i: usize) -> u8
 }
 
 // The four octets of two words from octet `i` on.
-fn cut_at(first: u32, second: u32, i: usize) -> u32
-    requires { ⌜ i < 4 ⌝ }
+pub(crate) fn cut_at(first: u32, second: u32, i: usize) -> u32
+    requires { ⌜ i ≤ 4 ⌝ }
     ensures { λ r. ⌜ r ≡ cut first second i ⌝ }
 {
     let both = first as u64 * 0x1_0000_0000 + second as u64;
     ((both >> ((4 - i) * 8)) % 0x1_0000_0000) as u32
 }
 
-// Its payload bytes `i` to `i + 3`, as a word.
+// A word that begins with the octets `at` to `at + some - 1` of the words.
+pub(crate) fn octets_from(words: &[u32], at: usize, some: usize) -> u32
+    requires { ⌜ (at < 65536) × ((0 < some) × ((some ≤ 4) × ((at + some - 1) / 4 < length (now words)))) ⌝ }
+    ensures { λ r. ⌜ ((i : ℕ) → i < some → octet r i ≡ octetIn (now (words .entry)) (at + i)) ⌝ }
+{
+    let last = at + some - 1;
+    cut_at(words[at / 4], words[last / 4], at % 4)
+}
+
+// Payload bytes `i` to `i + 3` of a message that has 13 in every packet but the last, as a word.
 pub(crate) fn four_at(words: &[u32], i: usize) -> u32
     requires { ⌜ (i < 65536) × (place (i + 3) / 4 < length (now words)) ⌝ }
     ensures { λ r. ⌜ r ≡ word (packedByte (now (words .entry)) i) (packedByte (now (words .entry)) (i + 1)) (packedByte (now (words .entry)) (i + 2)) (packedByte (now (words .entry)) (i + 3)) ⌝ }

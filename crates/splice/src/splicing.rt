@@ -201,10 +201,13 @@ pub(crate) fn splice(
     end
 }
 
-// Rewrites a valid message in fewest-packet form, and answers its length: the splice of nothing at its end.
+// Rewrites a valid message in fewest-packet form, and answers its length: where every packet but the last is full, by the splice of nothing at its end.
 pub(crate) fn repack(words: &mut [u32], length: usize, size: usize) -> usize
     requires { ⌜ Accepted (now words) length size ⌝ }
     ensures { λ r. ⌜ (r ≡ wordsFor sysex8 size) × (now (words .exit) ≡ rewritten sysex8 (now (words .entry)) length (payloadOf sysex8 (now (words .entry)) length)) ⌝ }
 {
-    splice(words, b"", length, size, size, size)
+    if is_full(words, length, size) {
+        return splice(words, b"", length, size, size, size);
+    }
+    pack(words, length, size)
 }

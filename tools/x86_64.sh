@@ -22,10 +22,10 @@ x86_64_rustc() {
 # Debian's packages for x86-64 programs on another machine.
 x86_64_install() {
     [ "$(id -u)" = 0 ] && command -v apt-get >/dev/null && command -v dpkg >/dev/null || return 1
-    local get="timeout 300 apt-get -qq -o Acquire::Retries=1 -o Acquire::http::Timeout=20"
+    local get="apt-get -qq -o Acquire::Retries=1 -o Acquire::http::Timeout=20"
     dpkg --add-architecture amd64 &&
-        $get update &&
-        DEBIAN_FRONTEND=noninteractive $get install -y --no-install-recommends \
+        timeout 120 $get update &&
+        DEBIAN_FRONTEND=noninteractive timeout 300 $get install -y --no-install-recommends \
             rustc-web libstd-rust-web-dev:amd64 gcc-x86-64-linux-gnu libc6-dev-amd64-cross qemu-user
 } >/dev/null 2>&1
 

@@ -216,10 +216,11 @@ latchbeacon_change latchbeacon_sysex8_splice(uint32_t *words, size_t words_lent,
 latchbeacon_change latchbeacon_sysex8_set_payload(uint32_t *words, size_t words_lent, size_t length, const uint8_t *bytes,
                                                   size_t bytes_lent);
 
-/* Replaces all ranges of a list of edits at once. Edit i is numbers[3i], numbers[3i + 1] and numbers[3i + 2]: from, to and replacement
- * length, as of the message before the call; its bytes follow those of the edits before it in `bytes`. The edits are in ascending
- * order, each ending no later than the next begins. The growth is that of all of them. With no edits the message is packed. Refusals: the check's, then 13 (also when the
- * numbers are not three to an edit, or the bytes are not as many as the lengths say), 20, 14. */
+/* Replaces all ranges of a list of edits at once. Edit i is numbers[3i], numbers[3i + 1] and numbers[3i + 2]: from, to and
+ * replacement length, as of the message before the call; its bytes follow those of the edits before it in `bytes`. The edits are in
+ * ascending order, each ending no later than the next begins. The growth is that of all of them. With no edits the message is
+ * packed. Refusals: the check's, then 13 (also when the numbers are not three to an edit, or the bytes are not as many as the lengths
+ * say), 20, 14. */
 latchbeacon_change latchbeacon_sysex8_splice_all(uint32_t *words, size_t words_lent, size_t length, const size_t *numbers,
                                                  size_t numbers_lent, const uint8_t *bytes, size_t bytes_lent);
 

@@ -1,7 +1,7 @@
 // The check of a message of any shape, as loops over the first words of its packets. A promise here holds of every shape whose
 // numbers are the ones given: words in a packet, message type, least and most count, octets of stream id.
 ghost use mathlib.Core.Path.{_≡_};
-ghost use Prim.Native.Nat.{_+_, _*_, _<_};
+ghost use Prim.Native.Nat.{_+_, _*_, _/_, _%_, _<_};
 ghost use lib.ListN.{length};
 ghost use Rattle.ump.specs.Packet.{Shape};
 ghost use Rattle.ump.specs.Packing.{statusFor};
@@ -31,6 +31,28 @@ pub(crate) enum Scan {
     Refused(Fault),
 }
 
+// How many whole packets of so many words a length has. The four words of SysEx8 need no division.
+fn whole_packets(length: usize, stride: usize) -> usize
+    requires { ⌜ 0 < stride ⌝ }
+    ensures { λ r. ⌜ r ≡ length / stride ⌝ }
+{
+    if stride == 4 {
+        return length / 4;
+    }
+    length / stride
+}
+
+// How many words are left over behind whole packets.
+fn left_over(length: usize, stride: usize) -> usize
+    requires { ⌜ 0 < stride ⌝ }
+    ensures { λ r. ⌜ r ≡ length % stride ⌝ }
+{
+    if stride == 4 {
+        return length % 4;
+    }
+    length % stride
+}
+
 // Long, Length, Short, Ragged.
 fn count_packets(lent: usize, length: usize, stride: usize) -> Bounds
     requires { ⌜ 0 < stride ⌝ }
@@ -45,10 +67,10 @@ fn count_packets(lent: usize, length: usize, stride: usize) -> Bounds
     if length < stride {
         return Bounds::Refused(Refusal::Short);
     }
-    if length % stride != 0 {
+    if left_over(length, stride) != 0 {
         return Bounds::Refused(Refusal::Ragged);
     }
-    Bounds::Packets(length / stride)
+    Bounds::Packets(whole_packets(length, stride))
 }
 
 // The first packet whose field of the first word is not `value`; their number if there is none.
@@ -200,6 +222,17 @@ fn find_fault(
     }
 }
 
+// The stream id of a first word, by what it is compared modulo: the 256 of SysEx8 needs no division.
+fn id_of(word: u32, modulus: u32) -> u32
+    requires { ⌜ 0 < modulus ⌝ }
+    ensures { λ r. ⌜ r ≡ word / 256 % modulus ⌝ }
+{
+    if modulus == 256 {
+        return word / 256 % 256;
+    }
+    word / 256 % modulus
+}
+
 // The payload size of packets that are all in order, in one pass.
 fn in_order(
     words: &[u32],
@@ -215,7 +248,7 @@ fn in_order(
 {
     let first = words[0];
     let head = kind * 16 + first / 0x100_0000 % 16;
-    let id = first / 256 % modulus;
+    let id = id_of(first, modulus);
     let mut size: usize = 0;
     let mut packet = 0;
     while packet < packets {
@@ -226,7 +259,7 @@ fn in_order(
         if word / 0x10_0000 % 16 != status_for(packets, packet) {
             return Total::Fault;
         }
-        if word / 256 % modulus != id {
+        if id_of(word, modulus) != id {
             return Total::Fault;
         }
         let count = word / 0x1_0000 % 16;

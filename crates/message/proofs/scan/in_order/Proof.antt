@@ -16,36 +16,37 @@ Inv-loop words stride packets kind least most modulus first head id size₀ pack
 abbrev μ-loop : tie.MeasureT-loop
 μ-loop words stride packets kind least most modulus first head id size₀ packet₀ size packet = packets - packet
 
-at : (c : tie.In-loop Inv-loop μ-loop) → let d = c .before .before .before .before in
+at : (c : tie.In-loop Inv-loop μ-loop) → let d = c .before .before .before .before .before in
     Here (d .args .stride) (c .before .loop .packet) (d .args .words .now)
-at c = here (c .before .loop .packet) (c .before .before .before .before .pre .0) (c .loop-test .taken)
-
--- the numbers of a packet that passed all tests
-numbers : (c : tie.Else5 Inv-loop μ-loop) → let l = c .before .before .before .before .before .before .before in let d = l .before .before .before .before in
-    Numbers (d .args .kind) (d .args .least) (d .args .most) (d .args .modulus) (getD (d .args .words .now) 0 0) (d .args .packets) (l .before .loop .packet)
-    (getD (d .args .words .now) (d .args .stride * l .before .loop .packet) 0)
-numbers c =
-    let f = c .before .before .before .before .before in
-    let o = first-octet _ _ _ (f .if1 .left) (f .before .before .before .before .before .before .pre .2) in
-    record {
-      of-type = o .0;
-      in-step = c .before .before .before .if2 .left ∙ c .before .before .before .before .status-for .ensures;
-      enough = c .before .if4 .left;
-      fitting = c .if5 .left;
-      one-group = o .1;
-      one-stream = c .before .before .if3 .left;
-    }
+at c = here (c .before .loop .packet) (c .before .before .before .before .before .pre .0) (c .loop-test .taken)
 
 -- the loop's place from past its tests
 abbrev loop-of : tie.Else5 Inv-loop μ-loop → tie.In-loop Inv-loop μ-loop
-loop-of c = c .before .before .before .before .before .before .before
+loop-of c = c .before .before .before .before .before .before .before .before
+
+-- the numbers of a packet that passed all tests
+numbers : (c : tie.Else5 Inv-loop μ-loop) → let l = loop-of c in let d = l .before .before .before .before .before in
+    Numbers (d .args .kind) (d .args .least) (d .args .most) (d .args .modulus) (getD (d .args .words .now) 0 0) (d .args .packets) (l .before .loop .packet)
+    (getD (d .args .words .now) (d .args .stride * l .before .loop .packet) 0)
+numbers c =
+    let g = c .before .before .before .before in
+    let f = g .before .before in
+    let o = first-octet _ _ _ (f .if1 .left) (loop-of c .before .before .before .before .before .pre .2) in
+    record {
+      of-type = o .0;
+      in-step = g .if2 .left ∙ g .before .status-for .ensures;
+      enough = c .before .if4 .left;
+      fitting = c .if5 .left;
+      one-group = o .1;
+      one-stream = sym (c .before .before .before .id-of2 .ensures) ∙ c .before .before .if3 .left ∙ loop-of c .before .before .id-of .ensures;
+    }
 
 -- a packet that fails a test is at fault: were all in order, so would it be
 returns : tie.Need-returns Inv-loop μ-loop
 returns c s h e =
     let l = c .before .before in
-    let i = l .before .before .before .before .args .stride * l .before .loop .packet in
-    let x : getD (l .before .before .before .before .args .words .now) i 0 < 2 ^ 32 = omega (arith, c .before .shared-slice-known3 .given i) in
+    let i = l .before .before .before .before .before .args .stride * l .before .loop .packet in
+    let x : getD (l .before .before .before .before .before .args .words .now) i 0 < 2 ^ 32 = omega (arith, c .before .shared-slice-known3 .given i) in
     let k = passes-numbers s _ _ h e (l .before .loop .packet) (l .loop-test .taken) in
     c .if1 .taken (octet-first _ _ _ x (k .of-type) (k .one-group))
 
@@ -56,23 +57,24 @@ returns-2 c s h e =
 
 returns-3 : tie.Need-returns-3 Inv-loop μ-loop
 returns-3 c s h e =
-    let l = c .before .before .before .before .before in
-    c .if3 .taken (passes-numbers s _ _ h e (l .before .loop .packet) (l .loop-test .taken) .one-stream)
+    let l = c .before .before .before .before .before .before in
+    let one = passes-numbers s _ _ h e (l .before .loop .packet) (l .loop-test .taken) .one-stream in
+    c .if3 .taken (c .before .id-of2 .ensures ∙ one ∙ sym (l .before .before .id-of .ensures))
 
 returns-4 : tie.Need-returns-4 Inv-loop μ-loop
 returns-4 c s h e =
-    let l = c .before .before .before .before .before .before in
+    let l = c .before .before .before .before .before .before .before in
     lt-irrefl (c .if4 .taken) (passes-numbers s _ _ h e (l .before .loop .packet) (l .loop-test .taken) .enough)
 
 returns-5 : tie.Need-returns-5 Inv-loop μ-loop
 returns-5 c s h e =
-    let l = c .before .before .before .before .before .before .before in
+    let l = c .before .before .before .before .before .before .before .before in
     lt-irrefl (c .if5 .taken) (passes-numbers s _ _ h e (l .before .loop .packet) (l .loop-test .taken) .fitting)
 
 returns-6 : tie.Need-returns-6 Inv-loop μ-loop
 returns-6 c s h =
     let k = c .before .loop .inv in
-    let e : c .before .loop .packet ≡ c .before .before .before .before .args .packets = omega (arith, k .within) in
+    let e : c .before .loop .packet ≡ c .before .before .before .before .before .args .packets = omega (arith, k .within) in
     (numbers-pass s _ _ h (λ p l. k .each p (rw e l)), rw e at (k .sized s h))
 
 pub in-order-spec : {M : Type 1} → statement M
@@ -84,7 +86,7 @@ in-order-spec =
     (λ c. begins (c .before .before .pre .0) (c .before .before .pre .1))
     (λ c. search needs)
     (λ c. search needs)
-    (λ c. search needs)
+    (λ c κs. search needs)
     (λ c. so-far-none)
     (λ c. at c .fits)
     (λ c. at c .bytes-fit)
@@ -92,7 +94,7 @@ in-order-spec =
     returns
     (λ c κs. search needs)
     returns-2
-    (λ c. search needs)
+    (λ c κs. search needs)
     returns-3
     returns-4
     returns-5

@@ -1,4 +1,4 @@
-# Sourced by run, record and bench/run, from the project's root: finds the original files and the tools, and builds a
+# Sourced by run, record, bench/run and bench/count, from the project's root: finds the original files and the tools, and builds a
 # program over the original in target/oracle. Nothing is fetched.
 
 oracle_folder=target/oracle
@@ -7,6 +7,24 @@ oracle_folder=target/oracle
 oracle_stop() {
     echo "oracle: $1" >&2
     exit 2
+}
+
+# Reads the arguments [SOURCES] [--library LIB.a] into sources and library.
+oracle_arguments() {
+    sources=../shared/docs/src
+    library=target/staticlib/liblatchbeacon.a
+    while [ $# -gt 0 ]; do
+        case $1 in
+            --library)
+                [ $# -gt 1 ] || oracle_stop "$1 wants a value"
+                library=$2
+                shift
+                ;;
+            -*) oracle_stop "unknown option $1" ;;
+            *) sources=$1 ;;
+        esac
+        shift
+    done
 }
 
 # The path of an original file below the folder $1, which has it by its path (with or without src/), or by a flat

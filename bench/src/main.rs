@@ -1,4 +1,6 @@
-//! Times the original and the port on the same inputs in one run: ns per call, best of many, and ratios.
+//! Times the original and the port on the same inputs in one run: ns per call, best of many, and ratios. With arguments it does one
+//! call so many times (counted.rs).
+mod counted;
 mod inputs;
 mod original;
 mod port;
@@ -154,8 +156,13 @@ fn run(size: usize) {
     packing(&bytes, floor);
 }
 
-/// The table, a size after the other.
+/// The call that the arguments name, or the table, a size after the other.
 fn main() {
+    let arguments: Vec<String> = std::env::args().skip(1).collect();
+    if !arguments.is_empty() {
+        assert!(counted::run(&arguments), "CALL SIDE SIZE TIMES");
+        return;
+    }
     println!("| call | bytes | port, ns | original, ns | ratio | try_from + call, ns | ratio | memmove, ns | ratio |");
     println!("|---|---|---|---|---|---|---|---|---|");
     for size in SIZES {

@@ -1,0 +1,100 @@
+//! One call so many times, so that the instructions that it takes can be counted from outside.
+use crate::{inputs, original, port};
+use std::hint::black_box;
+
+/// Who is called: ours, the original's bare call, or the original with its check before it.
+#[derive(Clone, Copy, PartialEq)]
+enum Side {
+    Port,
+    Bare,
+    Checked,
+}
+
+/// A splice of 8 bytes in the middle by 16, and back; or of 8 by 8.
+fn splices(side: Side, words: &[u32], size: usize, there_and_back: bool) -> Box<dyn FnMut()> {
+    let from = (size / 2).saturating_sub(4);
+    let mut ours = port::Bank::new(words);
+    let mut theirs = original::Bank::new(words);
+    let mut splice = move |to: usize, bytes: &[u8]| match side {
+        Side::Port => ours.splice(from, to, bytes),
+        Side::Bare => theirs.splice(from, to, bytes),
+        Side::Checked => theirs.checked_splice(from, to, bytes),
+    };
+    Box::new(move || {
+        if there_and_back {
+            splice(from + 8, black_box(&[9; 16]));
+            splice(from + 16, black_box(&[7; 8]));
+        } else {
+            splice(from + 8, black_box(&[7; 8]));
+        }
+    })
+}
+
+/// Copying an uneven message in, and packing it unless it is only to be copied.
+fn packing(side: Side, bytes: &[u8], copy_only: bool) -> Box<dyn FnMut()> {
+    let uneven = inputs::uneven(bytes);
+    let mut room = uneven.clone();
+    Box::new(move || {
+        room.copy_from_slice(black_box(&uneven));
+        if copy_only {
+            return;
+        }
+        if side == Side::Checked {
+            original::check(black_box(&room));
+        }
+        match side {
+            Side::Port => port::pack(black_box(&mut room)),
+            _ => original::pack(black_box(&mut room)),
+        }
+    })
+}
+
+/// A call that reads, or sets one byte. The check has no bare form.
+fn small(name: &str, side: Side, words: &[u32], size: usize) -> Option<Box<dyn FnMut()>> {
+    type Call = fn(&mut [u32], &mut [u8], usize);
+    let (ours, theirs): (Call, Call) = match name {
+        "check" => (|words, _, _| port::check(words), |words, _, _| original::check(words)),
+        "payload" => (|words, room, _| port::payload(words, room), |words, room, _| original::payload(words, room)),
+        "byte" => (
+            |words, _, middle| _ = black_box(port::byte(words, middle)),
+            |words, _, middle| _ = black_box(original::byte(words, middle)),
+        ),
+        "set_byte" => {
+            (|words, _, middle| port::set_byte(words, middle, 0x55), |words, _, middle| original::set_byte(words, middle, 0x55))
+        }
+        _ => return None,
+    };
+    let check_first = side == Side::Checked && name != "check";
+    let call = if side == Side::Port { ours } else { theirs };
+    let (mut words, mut room) = (words.to_vec(), vec![0; size]);
+    Some(Box::new(move || {
+        if check_first {
+            original::check(black_box(&words));
+        }
+        call(black_box(&mut words), black_box(&mut room), black_box(size / 2));
+    }))
+}
+
+/// Does a call so many times: its name, the side, the payload size and the number are the words. False if they name no call.
+pub fn run(arguments: &[String]) -> bool {
+    let [name, side, size, times] = arguments else { return false };
+    let (Ok(size), Ok(times)) = (size.parse::<usize>(), times.parse::<usize>()) else { return false };
+    let side = match side.as_str() {
+        "port" => Side::Port,
+        "bare" => Side::Bare,
+        "checked" => Side::Checked,
+        _ => return false,
+    };
+    let bytes = inputs::bytes(size);
+    let words = inputs::packed(&bytes);
+    let call = match name.as_str() {
+        "there_and_back" => Some(splices(side, &words, size, true)),
+        "same_size" => Some(splices(side, &words, size, false)),
+        "packing" => Some(packing(side, &bytes, false)),
+        "copy" => Some(packing(side, &bytes, true)),
+        name => small(name, side, &words, size),
+    };
+    let Some(mut call) = call else { return false };
+    (0..times).for_each(|_| call());
+    true
+}

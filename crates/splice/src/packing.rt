@@ -33,10 +33,10 @@ pub(crate) fn zero(words: &mut [u32], from: usize, to: usize)
     requires { ⌜ (from ≤ length (now words)) × (to ≤ length (now words)) ⌝ }
     ensures { λ _. ⌜ now (words .exit) ≡ zeroed (now (words .entry)) from to ⌝ }
 {
-    let mut k = from;
-    while k < to {
-        words[k] = 0;
-        k += 1;
+    let mut index = from;
+    while index < to {
+        words[index] = 0;
+        index += 1;
     }
 }
 
@@ -55,15 +55,15 @@ fn push(
     requires { ⌜ (0 < some) × ((at % 4 + some ≤ 4) × (end ≤ length (now words))) ⌝ }
     ensures { λ r. ⌜ (r ≡ pushOctets at octets four some) × (now (words .exit) ≡ pushWords base size at octets four some (now (words .entry))) ⌝ }
 {
-    let k = at / 4;
+    let index = at / 4;
     if at % 16 == 3 {
-        let first = head(base, size, end, k) + four / 0x100_0000;
-        words[k] = first;
+        let first = head(base, size, end, index) + four / 0x100_0000;
+        words[index] = first;
         return 0;
     }
     let word = cut_at(octets, four, some);
     if at % 4 + some == 4 {
-        words[k] = word;
+        words[index] = word;
         return 0;
     }
     word
@@ -78,13 +78,13 @@ pub(crate) fn carried_by(first: u32) -> usize
 }
 
 // The smaller number.
-fn least(a: usize, b: usize) -> usize
-    ensures { λ r. ⌜ r ≡ min a b ⌝ }
+fn least(one: usize, other: usize) -> usize
+    ensures { λ r. ⌜ r ≡ min one other ⌝ }
 {
-    if a < b {
-        return a;
+    if one < other {
+        return one;
     }
-    b
+    other
 }
 
 // Rewrites a valid message of `size` payload bytes in fewest-packet form, as many bytes at once as stand in one packet and go into one word, and answers its new length.

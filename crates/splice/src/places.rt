@@ -5,19 +5,19 @@ ghost use lib.ListN.{length, getD};
 ghost use Rattle.ump.specs.Word.{octet, word};
 ghost use Rattle.splice.specs.Places.{place, after, octetIn, packedByte, cut};
 
-// Octet `i` of a word.
-pub(crate) fn octet_of(word: u32, i: usize) -> u8
-    requires { ⌜ i < 4 ⌝ }
-    ensures { λ r. ⌜ r ≡ octet word i ⌝ }
+// Octet `index` of a word.
+pub(crate) fn octet_of(word: u32, index: usize) -> u8
+    requires { ⌜ index < 4 ⌝ }
+    ensures { λ r. ⌜ r ≡ octet word index ⌝ }
 {
-    ((word >> ((3 - i) * 8)) % 256) as u8
+    ((word >> ((3 - index) * 8)) % 256) as u8
 }
 
 // The word of four octets.
-pub(crate) fn word_of(a: u8, b: u8, c: u8, d: u8) -> u32
-    ensures { λ r. ⌜ r ≡ word a b c d ⌝ }
+pub(crate) fn word_of(first: u8, second: u8, third: u8, fourth: u8) -> u32
+    ensures { λ r. ⌜ r ≡ word first second third fourth ⌝ }
 {
-    a as u32 * 0x100_0000 + b as u32 * 0x1_0000 + c as u32 * 0x100 + d as u32
+    first as u32 * 0x100_0000 + second as u32 * 0x1_0000 + third as u32 * 0x100 + fourth as u32
 }
 
 // The octet of the byte `some` after the one at octet `at`, no later than the first of the next word.
@@ -28,22 +28,22 @@ pub(crate) fn place_after(at: usize, some: usize) -> usize
     at + some + (at % 16 + some) / 16 * 3
 }
 
-// Payload byte `i` of a message that has 13 in every packet but the last.
-pub(crate) fn byte_at(words: &[u32], i: usize) -> u8
-    requires { ⌜ (i < 65536) × (place i / 4 < length (now words)) ⌝ }
-    ensures { λ r. ⌜ r ≡ packedByte (now (words .entry)) i ⌝ }
+// Payload byte `index` of a message that has 13 in every packet but the last.
+pub(crate) fn byte_at(words: &[u32], index: usize) -> u8
+    requires { ⌜ (index < 65536) × (place index / 4 < length (now words)) ⌝ }
+    ensures { λ r. ⌜ r ≡ packedByte (now (words .entry)) index ⌝ }
 {
-    let at = i + 3 * (i / 13 + 1);
+    let at = index + 3 * (index / 13 + 1);
     octet_of(words[at / 4], at % 4)
 }
 
-// The four octets of two words from octet `i` on.
-pub(crate) fn cut_at(first: u32, second: u32, i: usize) -> u32
-    requires { ⌜ i ≤ 4 ⌝ }
-    ensures { λ r. ⌜ r ≡ cut first second i ⌝ }
+// The four octets of two words from octet `from` on.
+pub(crate) fn cut_at(first: u32, second: u32, from: usize) -> u32
+    requires { ⌜ from ≤ 4 ⌝ }
+    ensures { λ r. ⌜ r ≡ cut first second from ⌝ }
 {
     let both = first as u64 * 0x1_0000_0000 + second as u64;
-    ((both >> ((4 - i) * 8)) % 0x1_0000_0000) as u32
+    ((both >> ((4 - from) * 8)) % 0x1_0000_0000) as u32
 }
 
 // A word that begins with the octets `at` to `at + some - 1` of the words.
@@ -55,36 +55,41 @@ pub(crate) fn octets_from(words: &[u32], at: usize, some: usize) -> u32
     cut_at(words[at / 4], words[last / 4], at % 4)
 }
 
-// Payload bytes `i` to `i + 3` of a message that has 13 in every packet but the last, as a word.
-pub(crate) fn four_at(words: &[u32], i: usize) -> u32
-    requires { ⌜ (i < 65536) × (place (i + 3) / 4 < length (now words)) ⌝ }
-    ensures { λ r. ⌜ r ≡ word (packedByte (now (words .entry)) i) (packedByte (now (words .entry)) (i + 1)) (packedByte (now (words .entry)) (i + 2)) (packedByte (now (words .entry)) (i + 3)) ⌝ }
+// Payload bytes `index` to `index + 3` of a message that has 13 in every packet but the last, as a word.
+pub(crate) fn four_at(words: &[u32], index: usize) -> u32
+    requires { ⌜ (index < 65536) × (place (index + 3) / 4 < length (now words)) ⌝ }
+    ensures { λ r. ⌜ r ≡ word (packedByte (now (words .entry)) index) (packedByte (now (words .entry)) (index + 1)) (packedByte (now (words .entry)) (index + 2)) (packedByte (now (words .entry)) (index + 3)) ⌝ }
 {
-    let byte = i % 13;
-    let at = i + 3 * (i / 13 + 1);
-    let k = at / 4;
-    let first = words[k];
+    let byte = index % 13;
+    let at = index + 3 * (index / 13 + 1);
+    let start = at / 4;
+    let first = words[start];
     if byte < 10 {
         if at % 4 == 0 {
             return first;
         }
-        return cut_at(first, words[k + 1], at % 4);
+        return cut_at(first, words[start + 1], at % 4);
     }
-    let second = words[k + 1] % 0x100;
+    let second = words[start + 1] % 0x100;
     if byte == 10 {
         return first % 0x100_0000 * 0x100 + second;
     }
-    let third = words[k + 2];
+    let third = words[start + 2];
     if byte == 11 {
         return first % 0x1_0000 * 0x1_0000 + second * 0x100 + third / 0x100_0000;
     }
     first % 0x100 * 0x100_0000 + second * 0x1_0000 + third / 0x1_0000
 }
 
-// Bytes `i` to `i + 3` of lent ones, as a word.
-pub(crate) fn four_of(bytes: &[u8], i: usize) -> u32
-    requires { ⌜ i + 3 < length (now bytes) ⌝ }
-    ensures { λ r. ⌜ r ≡ word (getD (now (bytes .entry)) i 0) (getD (now (bytes .entry)) (i + 1) 0) (getD (now (bytes .entry)) (i + 2) 0) (getD (now (bytes .entry)) (i + 3) 0) ⌝ }
+// Bytes `index` to `index + 3` of lent ones, as a word.
+pub(crate) fn four_of(bytes: &[u8], index: usize) -> u32
+    requires { ⌜ index + 3 < length (now bytes) ⌝ }
+    ensures { λ r. ⌜ r ≡ word (getD (now (bytes .entry)) index 0) (getD (now (bytes .entry)) (index + 1) 0) (getD (now (bytes .entry)) (index + 2) 0) (getD (now (bytes .entry)) (index + 3) 0) ⌝ }
 {
-    word_of(bytes[i], bytes[i + 1], bytes[i + 2], bytes[i + 3])
+    word_of(
+        bytes[index],
+        bytes[index + 1],
+        bytes[index + 2],
+        bytes[index + 3],
+    )
 }

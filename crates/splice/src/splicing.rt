@@ -32,70 +32,70 @@ pub(crate) struct Plan {
     pub base: u32,
 }
 
-// Byte `i` of the new payload; zero past its end.
-fn new_byte(words: &[u32], replacement: &[u8], plan: Plan, i: usize) -> u8
-    requires { ⌜ (Sized (length (now words)) (length (now replacement)) plan) × (i < 65536) ⌝ }
-    ensures { λ r. ⌜ r ≡ newByte (now (words .entry)) (now (replacement .entry)) plan i ⌝ }
+// Byte `index` of the new payload; zero past its end.
+fn new_byte(words: &[u32], replacement: &[u8], plan: Plan, index: usize) -> u8
+    requires { ⌜ (Sized (length (now words)) (length (now replacement)) plan) × (index < 65536) ⌝ }
+    ensures { λ r. ⌜ r ≡ newByte (now (words .entry)) (now (replacement .entry)) plan index ⌝ }
 {
     let from = plan.from;
-    if i < from {
-        return byte_at(words, i);
+    if index < from {
+        return byte_at(words, index);
     }
     let tail = from + replacement.len();
-    if i < tail {
-        return replacement[i - from];
+    if index < tail {
+        return replacement[index - from];
     }
-    let source = plan.to + (i - tail);
+    let source = plan.to + (index - tail);
     if source < plan.size {
         return byte_at(words, source);
     }
     0
 }
 
-// Bytes `i` to `i + 3` of the new payload, one by one, as a word.
-fn new_bytes(words: &[u32], replacement: &[u8], plan: Plan, i: usize) -> u32
-    requires { ⌜ (Sized (length (now words)) (length (now replacement)) plan) × (i < 65532) ⌝ }
-    ensures { λ r. ⌜ r ≡ fourOf (newByte (now (words .entry)) (now (replacement .entry)) plan) i ⌝ }
+// Bytes `index` to `index + 3` of the new payload, one by one, as first word.
+fn new_bytes(words: &[u32], replacement: &[u8], plan: Plan, index: usize) -> u32
+    requires { ⌜ (Sized (length (now words)) (length (now replacement)) plan) × (index < 65532) ⌝ }
+    ensures { λ r. ⌜ r ≡ fourOf (newByte (now (words .entry)) (now (replacement .entry)) plan) index ⌝ }
 {
-    let a = new_byte(words, replacement, plan, i);
-    let b = new_byte(words, replacement, plan, i + 1);
-    let c = new_byte(words, replacement, plan, i + 2);
-    let d = new_byte(words, replacement, plan, i + 3);
-    word_of(a, b, c, d)
+    let first = new_byte(words, replacement, plan, index);
+    let second = new_byte(words, replacement, plan, index + 1);
+    let third = new_byte(words, replacement, plan, index + 2);
+    let fourth = new_byte(words, replacement, plan, index + 3);
+    word_of(first, second, third, fourth)
 }
 
 // The same, at once where all four come from behind the range or from the replacement.
-fn new_four(words: &[u32], replacement: &[u8], plan: Plan, i: usize) -> u32
-    requires { ⌜ (Sized (length (now words)) (length (now replacement)) plan) × (i < 65532) ⌝ }
-    ensures { λ r. ⌜ r ≡ fourOf (newByte (now (words .entry)) (now (replacement .entry)) plan) i ⌝ }
+fn new_four(words: &[u32], replacement: &[u8], plan: Plan, index: usize) -> u32
+    requires { ⌜ (Sized (length (now words)) (length (now replacement)) plan) × (index < 65532) ⌝ }
+    ensures { λ r. ⌜ r ≡ fourOf (newByte (now (words .entry)) (now (replacement .entry)) plan) index ⌝ }
 {
     let from = plan.from;
     let tail = from + replacement.len();
-    if tail <= i {
-        let source = plan.to + (i - tail);
+    if tail <= index {
+        let source = plan.to + (index - tail);
         if source + 3 < plan.size {
             return four_at(words, source);
         }
-        return new_bytes(words, replacement, plan, i);
+        return new_bytes(words, replacement, plan, index);
     }
-    if from <= i {
-        if i + 3 < tail {
-            return four_of(replacement, i - from);
+    if from <= index {
+        if index + 3 < tail {
+            return four_of(replacement, index - from);
         }
     }
-    new_bytes(words, replacement, plan, i)
+    new_bytes(words, replacement, plan, index)
 }
 
-// Word `k` of the new message.
-fn new_word(words: &[u32], replacement: &[u8], plan: Plan, k: usize) -> u32
-    requires { ⌜ (Sized (length (now words)) (length (now replacement)) plan) × (k < plan .end) ⌝ }
-    ensures { λ r. ⌜ r ≡ newWord (plan .base) (plan .total) (newByte (now (words .entry)) (now (replacement .entry)) plan) k ⌝ }
+// Word `index` of the new message.
+fn new_word(words: &[u32], replacement: &[u8], plan: Plan, index: usize) -> u32
+    requires { ⌜ (Sized (length (now words)) (length (now replacement)) plan) × (index < plan .end) ⌝ }
+    ensures { λ r. ⌜ r ≡ newWord (plan .base) (plan .total) (newByte (now (words .entry)) (now (replacement .entry)) plan) index ⌝ }
 {
-    let packet = k / 4;
-    let row = k % 4;
+    let packet = index / 4;
+    let row = index % 4;
     if row == 0 {
         let byte = new_byte(words, replacement, plan, 13 * packet);
-        return head(plan.base, plan.total, plan.end, k) + byte as u32;
+        return head(plan.base, plan.total, plan.end, index) + byte as u32;
     }
     new_four(words, replacement, plan, 13 * packet + 4 * row - 3)
 }
@@ -119,9 +119,9 @@ fn write(words: &mut [u32], replacement: &[u8], plan: Plan)
     let count = plan.end - 4 * (plan.from / 13);
     let mut done = 0;
     while done < count {
-        let k = turn(plan, done);
-        let word = new_word(words, replacement, plan, k);
-        words[k] = word;
+        let index = turn(plan, done);
+        let word = new_word(words, replacement, plan, index);
+        words[index] = word;
         done += 1;
     }
 }
@@ -137,9 +137,9 @@ fn put_heads(words: &mut [u32], plan: Plan)
     }
     let first = head(plan.base, plan.total, plan.end, 0) + words[0] % 0x100;
     words[0] = first;
-    let k = 4 * (from / 13) - 4;
-    let last = head(plan.base, plan.total, plan.end, k) + words[k] % 0x100;
-    words[k] = last;
+    let index = 4 * (from / 13) - 4;
+    let last = head(plan.base, plan.total, plan.end, index) + words[index] % 0x100;
+    words[index] = last;
 }
 
 // The splice of a message whose packets are full but for the last.

@@ -13,43 +13,43 @@ returns : tie.Need-returns
 returns c =
     let x = c .before .before .before .before .args in
     let small : (k : ℕ) → getD (x .words .now) k 0 < 2 ^ 32 = λ k. omega (arith, c .before .before .before .shared-slice-known .given k) in
-    four-whole (x .words .now) small (x .i) (omega arith) (omega arith)
+    four-whole (x .words .now) small (x .index) (omega arith) (omega arith)
 
 returns-2 : tie.Need-returns-2
 returns-2 c =
     let x = c .before .before .before .before .before .before .args in
     let small : (k : ℕ) → getD (x .words .now) k 0 < 2 ^ 32 = λ k. omega (arith, c .before .before .before .before .before .shared-slice-known .given k) in
-    c .cut-at .ensures ∙ four-cut (x .words .now) small (x .i) (omega arith) (λ z. omega arith)
+    c .cut-at .ensures ∙ four-cut (x .words .now) small (x .index) (omega arith) (λ z. omega arith)
 
 returns-3 : tie.Need-returns-3
 returns-3 c =
     let x = c .before .before .before .before .before .args in
     let small : (k : ℕ) → getD (x .words .now) k 0 < 2 ^ 32 = λ k. omega (arith, c .before .before .before .before .shared-slice-known .given k) in
-    four-10 (x .words .now) small (x .i) (omega arith)
+    four-10 (x .words .now) small (x .index) (omega arith)
 
 add-result-3 : tie.Need-add-result-3
 add-result-3 c =
     let x = c .before .before .before .before .before .before .before .args in
     let small : (k : ℕ) → getD (x .words .now) k 0 < 2 ^ 32 = λ k. omega (arith, c .before .before .before .before .before .before .shared-slice-known .given k) in
-    omega (arith, small (place (x .i) / 4 + 2))
+    omega (arith, small (place (x .index) / 4 + 2))
 
 returns-4 : tie.Need-returns-4
 returns-4 c =
     let x = c .before .before .before .before .before .before .before .args in
     let small : (k : ℕ) → getD (x .words .now) k 0 < 2 ^ 32 = λ k. omega (arith, c .before .before .before .before .before .before .shared-slice-known .given k) in
-    four-11 (x .words .now) small (x .i) (omega arith)
+    four-11 (x .words .now) small (x .index) (omega arith)
 
 add-result-5 : tie.Need-add-result-5
 add-result-5 c =
     let x = c .before .before .before .before .before .before .before .args in
     let small : (k : ℕ) → getD (x .words .now) k 0 < 2 ^ 32 = λ k. omega (arith, c .before .before .before .before .before .before .shared-slice-known .given k) in
-    omega (arith, small (place (x .i) / 4 + 2))
+    omega (arith, small (place (x .index) / 4 + 2))
 
 returns-5 : tie.Need-returns-5
 returns-5 c =
     let x = c .before .before .before .before .before .before .before .args in
     let small : (k : ℕ) → getD (x .words .now) k 0 < 2 ^ 32 = λ k. omega (arith, c .before .before .before .before .before .before .shared-slice-known .given k) in
-    four-12 (x .words .now) small (x .i) (omega arith)
+    four-12 (x .words .now) small (x .index) (omega arith)
 
 pub four-at-spec : {M : Type 1} → statement M
 four-at-spec =

@@ -12,7 +12,7 @@ use Rattle.splice.proofs.splicing.new_byte.Tie as tie
 byte-at-requires : tie.Need-byte-at-requires
 byte-at-requires c κs =
     let x = c .before .before .before .args in
-    omega (arith, place-in (x .i) (x .plan .size) (omega arith))
+    omega (arith, place-in (x .index) (x .plan .size) (omega arith))
 
 returns : tie.Need-returns
 unfolding newByte
@@ -25,7 +25,7 @@ returns-2 c = simp (le-ltb _ _ (c .before .before .if1 .left), lt-ltb _ _ (c .be
 byte-at-requires-2 : tie.Need-byte-at-requires-2
 byte-at-requires-2 c κs =
     let x = c .before .before .before .before .before .before .before .args in
-    omega (arith, place-in (x .plan .to + (x .i - (x .plan .from + length (x .replacement .now)))) (x .plan .size) (omega arith))
+    omega (arith, place-in (x .plan .to + (x .index - (x .plan .from + length (x .replacement .now)))) (x .plan .size) (omega arith))
 
 returns-3 : tie.Need-returns-3
 unfolding newByte

@@ -12,17 +12,17 @@ use Rattle.splice.proofs.splicing.new_four.Tie as tie
 four-at-requires : tie.Need-four-at-requires
 four-at-requires c κs =
     let x = c .before .before .before .before .before .before .args in
-    omega (arith, place-in (x .plan .to + (x .i - (x .plan .from + length (x .replacement .now))) + 3) (x .plan .size) (omega arith))
+    omega (arith, place-in (x .plan .to + (x .index - (x .plan .from + length (x .replacement .now))) + 3) (x .plan .size) (omega arith))
 
 returns : tie.Need-returns
 returns c =
     let x = c .before .before .before .before .before .before .before .args in
-    c .four-at .ensures ∙ tail-four (x .words .now) (x .replacement .now) (x .plan) (x .i) _ (omega arith) (omega arith) (omega arith)
+    c .four-at .ensures ∙ tail-four (x .words .now) (x .replacement .now) (x .plan) (x .index) _ (omega arith) (omega arith) (omega arith)
 
 returns-3 : tie.Need-returns-3
 returns-3 c =
     let x = c .before .before .before .before .before .before .args in
-    c .four-of .ensures ∙ replaced-four (x .words .now) (x .replacement .now) (x .plan) (x .i) _ (omega arith) (omega arith) (omega arith)
+    c .four-of .ensures ∙ replaced-four (x .words .now) (x .replacement .now) (x .plan) (x .index) _ (omega arith) (omega arith) (omega arith)
 
 pub new-four-spec : {M : Type 1} → statement M
 new-four-spec =

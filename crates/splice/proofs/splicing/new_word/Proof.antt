@@ -16,7 +16,7 @@ returns c =
 returns-2 : tie.Need-returns-2
 returns-2 c =
     let x = c .before .before .before .before .args in
-    c .new-four .ensures ∙ word-other (x .plan .base) (x .plan .total) (newByte (x .words .now) (x .replacement .now) (x .plan)) (x .k) (λ z. omega arith)
+    c .new-four .ensures ∙ word-other (x .plan .base) (x .plan .total) (newByte (x .words .now) (x .replacement .now) (x .plan)) (x .index) (λ z. omega arith)
 
 pub new-word-spec : {M : Type 1} → statement M
 new-word-spec =

@@ -66,35 +66,44 @@ pub fn answer(input: &Input) -> Theirs {
     }
 }
 
+/// A field of a word.
+pub fn field_of(field: Field, word: u32, index: usize) -> u64 {
+    match field {
+        Field::Bit => u64::from(word.bit(index)),
+        Field::Crumb => u8::from(word.crumb(index)).into(),
+        Field::Nibble => u8::from(word.nibble(index)).into(),
+        Field::Septet => u8::from(word.septet(index)).into(),
+        Field::Octet => word.octet(index).into(),
+        Field::Word => word.word(index).into(),
+    }
+}
+
+/// A word with a field set.
+pub fn with_field(field: Field, mut word: u32, index: usize, value: u64) -> u32 {
+    match field {
+        Field::Bit => word.set_bit(index, value != 0),
+        Field::Crumb => word.set_crumb(index, u2::new(value as u8)),
+        Field::Nibble => word.set_nibble(index, u4::new(value as u8)),
+        Field::Septet => word.set_septet(index, u7::new(value as u8)),
+        Field::Octet => word.set_octet(index, value as u8),
+        Field::Word => word.set_word(index, value as u16),
+    };
+    word
+}
+
 /// Reading a field.
 fn read_field(field: Field, input: &Input) -> Theirs {
-    let (word, index) = (input.words[0], input.numbers[0] as usize);
     collect(|values| {
-        values.push(match field {
-            Field::Bit => u64::from(word.bit(index)),
-            Field::Crumb => u8::from(word.crumb(index)).into(),
-            Field::Nibble => u8::from(word.nibble(index)).into(),
-            Field::Septet => u8::from(word.septet(index)).into(),
-            Field::Octet => word.octet(index).into(),
-            Field::Word => word.word(index).into(),
-        });
+        values.push(field_of(field, input.words[0], input.numbers[0] as usize));
         End::Done
     })
 }
 
 /// Setting a field.
 fn set_field(field: Field, input: &Input) -> Theirs {
-    let (mut word, index, value) = (input.words[0], input.numbers[0] as usize, input.numbers[1]);
+    let (word, index, value) = (input.words[0], input.numbers[0] as usize, input.numbers[1]);
     collect(|values| {
-        match field {
-            Field::Bit => word.set_bit(index, value != 0),
-            Field::Crumb => word.set_crumb(index, u2::new(value as u8)),
-            Field::Nibble => word.set_nibble(index, u4::new(value as u8)),
-            Field::Septet => word.set_septet(index, u7::new(value as u8)),
-            Field::Octet => word.set_octet(index, value as u8),
-            Field::Word => word.set_word(index, value as u16),
-        };
-        values.push(word.into());
+        values.push(with_field(field, word, index, value).into());
         End::Done
     })
 }

@@ -1,13 +1,12 @@
 //! What the original answers to a query, as docs/differences/answers-release.txt and answers-debug.txt write it.
 //! A panic is caught where it happens and written in place of the answer or of the one field.
-use crate::answers::Field;
 use crate::original;
 use crate::queries::{bytes, field, number, words, Query};
 use midi2::buffer::Ump;
-use midi2::inside::{self, BitOps};
+use midi2::inside;
 use midi2::sysex7::{self, Sysex7};
 use midi2::sysex8::{self, Sysex8};
-use midi2::ux::{u2, u4, u7};
+use midi2::ux::{u4, u7};
 use midi2::{Data, FromBytes, Grouped, Sysex};
 
 /// The text that a call makes, or `panic`.
@@ -61,26 +60,11 @@ fn word_field(parts: &[&str]) -> String {
     let index = number(parts[2]) as usize;
     let field = field(parts[1]);
     if parts[0] == "get" {
-        let word = words(parts[3])[0];
-        let value = match field {
-            Field::Bit => u32::from(word.bit(index)),
-            Field::Crumb => word.crumb(index).into(),
-            Field::Nibble => word.nibble(index).into(),
-            Field::Septet => word.septet(index).into(),
-            Field::Octet => word.octet(index).into(),
-            Field::Word => word.word(index).into(),
-        };
+        let value = original::field_of(field, words(parts[3])[0], index);
         return format!("ok {value:X}");
     }
-    let (value, mut word) = (words(parts[3])[0], words(parts[4])[0]);
-    match field {
-        Field::Bit => word.set_bit(index, value != 0),
-        Field::Crumb => word.set_crumb(index, u2::new(value as u8)),
-        Field::Nibble => word.set_nibble(index, u4::new(value as u8)),
-        Field::Septet => word.set_septet(index, u7::new(value as u8)),
-        Field::Octet => word.set_octet(index, value as u8),
-        Field::Word => word.set_word(index, value as u16),
-    };
+    let (value, word) = (words(parts[3])[0], words(parts[4])[0]);
+    let word = original::with_field(field, word, index, value.into());
     format!("ok {word:08X}")
 }
 

@@ -10,25 +10,13 @@ use borrow.Author.Tests.{eq-eqb}
 use Rattle.refusal.specs.Answer.{gives}
 use Rattle.ump.specs.Edits.{Edit, Patch, patchAt, endBefore, Apart, replaced, patchesOf, lengths, someBad, someOverlap, elem, total, editsOf}
 use Rattle.ump.proofs.First.{Side, under, over, side}
-use Rattle.ump.proofs.Replace.{mixed-all, size-mixed, total-cong, elem-other}
+use Rattle.ump.proofs.Replace.{endFrom, end-before, end-next, mixed-all, size-mixed, total-cong, elem-other}
+use Rattle.ump.proofs.Counting.{total-front}
 use Rattle.edit.specs.Listed.{widths, sizeAfter, listed}
 use Rattle.edit.specs.Passes.{put, out}
 use Rattle.edit.proofs.Lists.{bad-none, overlap-none, list-passes}
 
 -- ---- apart
-
--- where patch i may begin, if the first may at `start`
-abbrev endFrom : ℕ → List Patch → ℕ → ℕ
-endFrom start patches zero = start
-endFrom start patches (suc i) = patchAt patches i .to
-
-end-before : (patches : List Patch) (i : ℕ) → endBefore patches i ≡ endFrom 0 patches i
-end-before patches zero = refl
-end-before patches (suc i) = refl
-
-end-next : (patch : Patch) (patches : List Patch) (i : ℕ) → patchAt (patch ∷ patches) i .to ≡ endFrom (patch .to) patches i
-end-next patch patches zero = refl
-end-next patch patches (suc i) = refl
 
 after : (start : ℕ) (es : List Edit) (bytes : List ℕ) → someOverlap start es ≡ false
     → (i : ℕ) → i < length (patchesOf es bytes) → endFrom start (patchesOf es bytes) i ≤ patchAt (patchesOf es bytes) i .from
@@ -87,11 +75,6 @@ size-replaced p es a =
       all (put es),
       all (out es),
     )
-
-pub total-front : (f : ℕ → ℕ) (n : ℕ) → total f (suc n) ≡ f 0 + total (λ j. f (suc j)) n
-unfolding total
-total-front f zero = omega arith
-total-front f (suc n) = omega (arith, total-front f n)
 
 all-put : (es : List Edit) (bytes : List ℕ) → lengths es ≤ length bytes → total (put (patchesOf es bytes)) (length (patchesOf es bytes)) ≡ lengths es
 unfolding total

@@ -1,5 +1,5 @@
 -- Edits that are not bad, growth on 64 bits, and moving an edit case by case. Assumes nothing.
-use mathlib.Core.Path.{_≡_, _∙_}
+use mathlib.Core.Path.{_≡_, sym, _∙_}
 use mathlib.Core.Bool.{Bool, true, false}
 use Prim.Native.Nat.{ℕ, _-_, _^_, _≤_, _<_}
 use native.Mathlib.Omega.{arith}
@@ -11,7 +11,7 @@ use borrow.Author.Tests.{le-ltb, lt-ltb}
 use Rattle.refusal.specs.Answer.{gives, refused}
 use Rattle.ump.specs.Edits.{Edit, growth, badEdit, movedPast, moveEdit}
 use Rattle.ump.proofs.First.{Side, under, over, side}
-use Rattle.ump.proofs.Signed.{mag-sub, moved-by-growth}
+use Rattle.ump.proofs.Signed.{mag-sub, growth-is, moved-past-is, moved-by-growth}
 use Rattle.edit.specs.Growth.{growthOf, Sound}
 
 -- ---- bad or sound
@@ -40,23 +40,29 @@ module _ (e : Edit) (s : Sound e) where
   difference =
       let a : e .length < 2 ^ 63 = omega (arith, s .size) in
       let b : e .to - e .from < 2 ^ 63 = omega (arith, s .end) in
-      rw (toZ-pos w64 a, toZ-pos w64 b)
+      rw (toZ-pos w64 a, toZ-pos w64 b) (sym (growth-is (e .from) (e .to) (e .length) (s .forward)))
 
   pub growth-fits : SFits w64 (growth e)
-  growth-fits = record { sfits = mag-sub (e .length) (e .to - e .from) (2 ^ 63) (omega (arith, s .size)) (omega (arith, s .end)) }
+  growth-fits =
+      rw (growth-is (e .from) (e .to) (e .length) (s .forward))
+      (record { sfits = mag-sub (e .length) (e .to - e .from) (2 ^ 63) (omega (arith, s .size)) (omega (arith, s .end)) })
 
   -- the growth as an answer holds it
   pub growth-held : {g : ℤ} → g ≡ growth e → toZ w64 (ofZ w64 g) ≡ growth e
   growth-held q = rw q (toZ-ofZ growth-fits)
 
+  -- a place behind it moves to one that is far below the width
+  pub moved-small : (x : ℕ) → e .to ≤ x → x ≤ 53248 → movedPast e x < 2 ^ 63
+  moved-small x h k = rw (moved-past-is e x (s .forward) (omega arith)) (omega (arith, s .size))
+
   -- a place behind it, cast, and its growth added
   pub sum-is : (x : ℕ) {g : ℤ} → g ≡ growth e → e .to ≤ x → x ≤ 53248 → toZ w64 x +ℤ toZ w64 (ofZ w64 g) ≡ pos (movedPast e x)
   sum-is x q h k =
       let a : x < 2 ^ 63 = omega arith in
-      rw (growth-held q, toZ-pos w64 a) (moved-by-growth e x (omega arith))
+      rw (growth-held q, toZ-pos w64 a) (sym (moved-by-growth e x (s .forward) (omega arith)))
 
   pub sum-fits : (x : ℕ) {g : ℤ} → g ≡ growth e → e .to ≤ x → x ≤ 53248 → SFits w64 (toZ w64 x +ℤ toZ w64 (ofZ w64 g))
-  sum-fits x q h k = rw (sum-is x q h k) (record { sfits = omega (arith, s .size) })
+  sum-fits x q h k = rw (sum-is x q h k) (record { sfits = moved-small x h k })
 
   -- and back: nothing is lost
   pub sum-back : (x : ℕ) {g : ℤ} → g ≡ growth e → e .to ≤ x → x ≤ 53248

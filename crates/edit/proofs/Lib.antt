@@ -11,5 +11,5 @@ pub mod Unique
 pub mod ShutOut
 pub mod Worker
 pub mod Demand
-pub mod Finishing
+pub mod AtOnce
 pub mod Octets

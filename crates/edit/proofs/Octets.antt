@@ -1,72 +1,36 @@
--- Which octets of a message the code wrote: after any call of `splice` that is done, with any outcome that its promise allows.
--- Assumes nothing.
+-- Which octets the code wrote, and where the others come from: after any call of `repack`, `splice` or `splice_all` that is done, with any
+-- outcome that the promises allow. (At the end of a worker: Demand.demand3 .origins.) Assumes nothing.
 use mathlib.Core.Path.{_≡_, sym}
-use mathlib.Core.Bool.{false}
-use mathlib.Core.List.{List}
-use Prim.Native.Nat.{ℕ, _-_, _*_, _≤_, _<_}
-use lib.ListN.{length, getD, take}
-use Rattle.refusal.specs.Answer.{gives}
-use Rattle.ump.specs.Word.{octets, Below}
-use Rattle.ump.specs.Packet.{sysex8, groupAt, idAt}
-use Rattle.ump.specs.Packing.{packetsFor, wordsFor}
-use Rattle.ump.specs.Check.{payloadOf}
+use mathlib.Core.List.{List, []}
+use Prim.Native.Nat.{ℕ}
+use Rattle.refusal.specs.Answer.{Answer, gives}
+use Rattle.ump.specs.Word.{Below}
+use Rattle.ump.specs.Packet.{sysex8}
 use Rattle.ump.specs.Splice as ump
-use Rattle.ump.specs.Origin.{Numbers, newSize, originOf, octetFrom, isHeader, isKept, isReplacement, isFiller, howMany, Carried}
+use Rattle.ump.specs.Edits.{Edit, editsOf, patchesOf}
+use Rattle.ump.specs.Origin.{Traced}
 use Rattle.ump.proofs.Origins as origins
-use Rattle.ump.proofs.Counting as counting
-use Rattle.splice.specs.declared.sysex8.Change.{Change}
-use Rattle.splice.specs.declared.sysex8.Spliced.the-variants as spliced
-use Rattle.edit.specs.declared.Range.{Range}
-use Rattle.edit.proofs.Worker.{Splices}
-use Rattle.edit.proofs.Demand.{splice-plain}
+use Rattle.ump.proofs.Origins.{single}
+use Rattle.edit.proofs.Worker.{Splices, Repacks, SplicesAll}
+use Rattle.edit.proofs.Demand.{splice-plain, all-plain}
+use Rattle.edit.proofs.AtOnce.{all-traced}
 
-module _ {words : List ℕ} {len : ℕ} {range : Range} {bytes : List ℕ} {change : Change} {left : List ℕ}
-    (call : Splices words len range bytes (spliced.Done change) left) (small : Below 256 bytes) where
-  abbrev old : List ℕ
-  old = payloadOf sysex8 words len
+-- packing: a list of no edits
+pub repack-traced : {words : List ℕ} {len new : ℕ} {left : List ℕ} → Repacks words len (gives new) left → Traced sysex8 words len [] len left new
+repack-traced {words} {len} {new} {left} call = origins.repack-traced sysex8 words len new left (sym (repack-plain call))
+  where
+    repack-plain : {answer : Answer ℕ} → Repacks words len answer left → (answer, left) ≡ ump.repack sysex8 words len
+    repack-plain r = rw (r .words-are, r .length-is, r .left-are, r .answer-is) at (r .promise)
 
-  abbrev by : Numbers
-  by = record { size = length old; from = range .from; to = range .to; length = length bytes }
+-- a splice: a list of one
+pub splice-traced : {words : List ℕ} {len : ℕ} {edit : Edit} {bytes : List ℕ} {change : ump.Spliced} {left : List ℕ}
+    → Splices words len edit bytes (gives change) left → Below 256 bytes
+    → Traced sysex8 words len (single (edit .from) (edit .to) bytes) len left (change .length)
+splice-traced {words} {len} {edit} {bytes} {change} {left} call small =
+    origins.splice-traced sysex8 words len (edit .from) (edit .to) bytes change left (sym (splice-plain call)) small
 
-  abbrev told : ump.Spliced
-  told = record { length = change .length; growth = change .growth }
-
-  done : ump.splice sysex8 words len (range .from) (range .to) bytes ≡ (gives told, left)
-  done = sym (splice-plain call)
-
-  -- Each octet of the message is what `originOf` says of its position: an octet of a header, the old payload's byte, the byte lent,
-  -- or a zero.
-  pub octet-origin : (q : ℕ) → q < 4 * change .length
-      → getD (octets (take (change .length) left)) q 0
-      ≡ octetFrom sysex8 (groupAt sysex8 words 0) (idAt sysex8 words 0) (newSize by) old bytes (originOf sysex8 by q)
-  octet-origin = origins.octet-origin sysex8 words len (range .from) (range .to) bytes told left done small
-
-  -- Each octet that is neither header nor filler is a byte of the old payload, or one of the bytes lent, unchanged.
-  pub carried : (q : ℕ) → q < 4 * change .length → isHeader (originOf sysex8 by q) ≡ false → isFiller (originOf sysex8 by q) ≡ false
-      → Carried old bytes (getD (octets (take (change .length) left)) q 0)
-  carried = origins.carried sysex8 words len (range .from) (range .to) bytes told left done small
-
-  forward : range .from ≤ range .to
-  forward = origins.forward sysex8 words len (range .from) (range .to) bytes told left done small
-
-  inside : range .to ≤ length old
-  inside = origins.inside sysex8 words len (range .from) (range .to) bytes told left done small
-
-  length-by : change .length ≡ wordsFor sysex8 (newSize by)
-  length-by = origins.length-by sysex8 words len (range .from) (range .to) bytes told left done small
-
-  -- How many octets are of each kind: three of header for each packet, the old bytes outside the range, the bytes lent, and zeros.
-  pub record Counts : Type 0 where
-    pub headers : howMany sysex8 by isHeader (4 * change .length) ≡ 3 * packetsFor sysex8 (newSize by)
-    pub kept : howMany sysex8 by isKept (4 * change .length) ≡ length old - (range .to - range .from)
-    pub replaced : howMany sysex8 by isReplacement (4 * change .length) ≡ length bytes
-    pub fillers : howMany sysex8 by isFiller (4 * change .length) ≡ 13 * packetsFor sysex8 (newSize by) - newSize by
-
-  pub counts : Counts
-  counts =
-      record {
-        headers = rw length-by (counting.headers sysex8 by forward inside);
-        kept = rw length-by (counting.keeps sysex8 by forward inside);
-        replaced = rw length-by (counting.replaces sysex8 by forward inside);
-        fillers = rw length-by (counting.fills sysex8 by forward inside);
-      }
+-- all edits of a list at once
+pub at-once-traced : {words : List ℕ} {len : ℕ} {numbers bytes : List ℕ} {change : ump.Spliced} {left : List ℕ}
+    → SplicesAll words len numbers bytes (gives change) left → Below 256 bytes
+    → Traced sysex8 words len (patchesOf (editsOf numbers) bytes) len left (change .length)
+at-once-traced {words} {len} {numbers} {bytes} {change} {left} call small = all-traced sysex8 words len numbers bytes change left (sym (all-plain call)) small

@@ -16,14 +16,14 @@ use Rattle.ump.specs.Packet.{sysex8, groupAt, idAt}
 use Rattle.ump.specs.Packing.{wordsFor}
 use Rattle.ump.specs.Check.{payloadOf, Valid}
 use Rattle.ump.specs.Splice.{spliced, rewritten, Spliced, splice}
-use Rattle.ump.specs.Edits.{Edit, Patch, none, patchAt, Apart, perEdit, editIn, editsOf, patchesOf, lengths, someBad, elem, total, added, removed, moved}
-use Rattle.ump.specs.Demand.{Holds}
+use Rattle.ump.specs.Edits.{Edit, Patch, none, patchAt, Apart, perEdit, editIn, editsOf, patchesOf, lengths, someBad, elem, total}
+use Rattle.ump.specs.Holds.{Holds}
 use Rattle.ump.proofs.First.{Side, under, over, side}
 use Rattle.ump.proofs.Words.{below-at, below-take, below-drop}
 use Rattle.ump.proofs.Sizes.{words-mono}
 use Rattle.ump.proofs.Checks.{passes-valid}
 use Rattle.ump.proofs.Message.{no-spread}
-use Rattle.ump.proofs.Replace.{mixed, length-before, range-whole, range-forward, range-inside, step}
+use Rattle.ump.proofs.Replace.{added, removed, moved, mixed, length-before, range-whole, range-forward, range-inside, step}
 use Rattle.ump.proofs.Splicing.{length-spliced, splice-done, splice-packs}
 use Rattle.splice.specs.Accepted.{Accepted}
 use Rattle.splice.proofs.Numbers.{words-number}

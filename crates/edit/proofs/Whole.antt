@@ -15,7 +15,7 @@ use Rattle.ump.specs.Packing.{wordsFor}
 use Rattle.ump.specs.Check.{check, payloadOf, Valid}
 use Rattle.ump.specs.Splice.{rewritten, repack}
 use Rattle.ump.specs.Edits.{replaced, perEdit, editsFrom, editsOf, patchesOf, badList, someOverlap, spliceAll}
-use Rattle.ump.specs.Demand.{Holds}
+use Rattle.ump.specs.Holds.{Holds}
 use Rattle.ump.proofs.Checks.{passes-valid}
 use Rattle.ump.proofs.Message.{no-spread}
 use Rattle.ump.proofs.Replace.{mixed, mixed-none}

@@ -12,7 +12,7 @@ use Rattle.ump.specs.Packing.{wordsFor}
 use Rattle.ump.specs.Check.{check, payloadOf}
 use Rattle.ump.specs.Splice.{Spliced, splice, rewritten}
 use Rattle.ump.specs.Edits.{Patch, patchAt, perEdit, editsOf, patchesOf}
-use Rattle.ump.specs.Demand.{Holds}
+use Rattle.ump.specs.Holds.{Holds}
 use Rattle.ump.proofs.Replace.{mixed}
 use Rattle.edit.specs.Listed.{listed}
 

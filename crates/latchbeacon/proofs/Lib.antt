@@ -2,3 +2,5 @@
 pub mod Laws
 pub mod Unique
 pub mod ShutOut
+pub mod Worker
+pub mod Demand

@@ -9,10 +9,15 @@ use lib.ListN.{length, take, drop, set, length-append}
 use lib.Seq.{take-at, drop-at, take-add, set-append-left}
 use Rattle.ump.specs.Packet.{joined}
 
-pub joined-cong : (f g : ℕ → List ℕ) (n : ℕ) → ((p : ℕ) → p < n → f p ≡ g p) → joined f n ≡ joined g n
+pub joined-cong : {A : Type 0} (f g : ℕ → List A) (n : ℕ) → ((p : ℕ) → p < n → f p ≡ g p) → joined f n ≡ joined g n
 unfolding joined
 joined-cong f g zero h = refl
 joined-cong f g (suc n) h = rw (joined-cong f g n (λ p k. h p (omega arith)), h n (omega arith))
+
+pub joined-front : {A : Type 0} (f : ℕ → List A) (n : ℕ) → joined f (suc n) ≡ f 0 ++ joined (λ i. f (suc i)) n
+unfolding joined
+joined-front f zero = sym (append-nil (f 0))
+joined-front f (suc n) = rw (joined-front f n) (append-assoc (f 0) (joined (λ i. f (suc i)) n) (f (suc n)))
 
 pub joined-add : (f : ℕ → List ℕ) (m k : ℕ) → joined f (m + k) ≡ joined f m ++ joined (λ i. f (m + i)) k
 unfolding joined

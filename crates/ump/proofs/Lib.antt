@@ -18,5 +18,15 @@ pub mod Reading
 pub mod Streaming
 pub mod Payload
 pub mod Singles
+pub mod Done
+pub mod Behind
+pub mod Runs
+pub mod Sources
 pub mod Origins
 pub mod Counting
+pub mod Meets
+pub mod Steps
+pub mod Demand
+pub mod Demand3
+pub mod Orders
+pub mod Numbered

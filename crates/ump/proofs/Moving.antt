@@ -10,10 +10,11 @@ use lib.ListN.{length, length-append}
 use borrow.Author.Tests.{le-ltb, eqb-false}
 use Rattle.refusal.specs.Answer.{gives}
 use Rattle.ump.specs.Packet.{joined}
-use Rattle.ump.specs.Edits.{Edit, Range, Patch, patchAt, Apart, elem, total, added, removed, moved, allBytes, badEdit, moveEdit, chase, Order}
+use Rattle.ump.specs.Edits.{Edit, Range, Patch, patchAt, Apart, elem, total, allBytes, badEdit, movedPast, moveEdit}
 use Rattle.ump.proofs.Joined.{joined-add}
 use Rattle.ump.proofs.First.{is-false, Side, under, over, side}
-use Rattle.ump.proofs.Replace.{piece, length-before, length-mixed, range-forward, range-inside, range-whole, moved-lower, moved-higher, total-zero}
+use Rattle.ump.proofs.Replace.{added, removed, moved, piece, length-before, length-mixed, range-forward, range-inside, range-whole, moved-lower, moved-higher, total-zero}
+use Rattle.ump.proofs.Signed.{moved-past-is}
 
 pub total-ge : (f : ℕ → ℕ) (n i : ℕ) → i < n → f i ≤ total f n
 unfolding total
@@ -73,11 +74,16 @@ module _ (p : List ℕ) (es : List Patch) (a : Apart es (length p)) (small : len
   unfolding moveEdit
   move-lower i k h l u v =
       let w = range-whole p es a ds k l v in
+      let past : (x : ℕ) → t i ≤ x → movedPast (editNow es ds i) x ≡ x + length (patchAt es i .bytes) - (t i - f i) =
+      λ x b. moved-past-is (editNow es ds i) x (range-forward p es a ds i (omega arith) u) (omega arith)
+      in
       let width : t i - f i ≡ patchAt es i .to - patchAt es i .from = omega (arith, range-whole p es a ds i (omega arith) u, a .forward i (omega arith)) in
       rw (
         fine i (omega arith) u,
         fine k l v,
         le-ltb (f k) (t i) (before i k h l u),
+        past (f k) (omega (arith, before i k h l u)),
+        past (t k) (omega (arith, before i k h l u, range-forward p es a ds k l v)),
         width,
         moved-lower es ds i k u (patchAt es k .from) h w,
         moved-lower es ds i k u (patchAt es k .to) h (omega (arith, a .forward k l)),
@@ -103,30 +109,10 @@ module _ (p : List ℕ) (es : List Patch) (a : Apart es (length p)) (small : len
       go (under b e) = rw e (move-lower i k b l u v)
       go (over b e) = rw e (move-higher i k (omega arith) h u v)
 
--- ---- repeated use of moving an edit: whatever was done, and in whatever order, no move is refused
-
-none-done : (es : List Patch) (k x : ℕ) → x ≡ moved es [] k x
-none-done es k x =
+pub none-moved : (es : List Patch) (k x : ℕ) → x ≡ moved es [] k x
+none-moved es k x =
     omega (
       arith,
       total-zero (λ j. cond (elem j []) (length (patchAt es j .bytes)) 0) k (λ j. refl),
       total-zero (λ j. cond (elem j []) (patchAt es j .to - patchAt es j .from) 0) k (λ j. refl),
     )
-
-apart-split : (i k : ℕ) (ds : List ℕ) → elem k (i ∷ ds) ≡ false → (i ≢ k) × (elem k ds ≡ false)
-apart-split i k ds e = go (eqb k i) refl e
-  where
-    go : (b : Bool) → eqb k i ≡ b → (b || elem k ds) ≡ false → (i ≢ k) × (elem k ds ≡ false)
-    go true x y = let z : _≡_ {A = ℕ} 0 1 = cc in absurd (omega arith)
-    go false x y = (λ q. eqb-false k i x (sym q), y)
-
-pub chase-is : (p : List ℕ) (es : List Patch) → Apart es (length p) → length p + allBytes es ≤ 53248
-    → (ds : List ℕ) → Order (length es) ds → (k : ℕ) → k < length es → elem k ds ≡ false
-    → chase es ds k ≡ gives (rangeNow es ds k)
-unfolding chase
-chase-is p es a small [] o k h u =
-    rw (← (none-done es k (patchAt es k .from)), ← (none-done es k (patchAt es k .to)))
-chase-is p es a small (i ∷ ds) o k h u =
-    let q = apart-split i k ds u in
-    rw (chase-is p es a small ds (o .2) i (o .0) (is-false _ (o .1)), chase-is p es a small ds (o .2) k h (q .1))
-    (move-past p es a small ds i k (o .0) h (q .0) (is-false _ (o .1)) (q .1))

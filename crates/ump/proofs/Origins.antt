@@ -1,295 +1,434 @@
--- After a splice each octet of the message is what its origin says. Assumes nothing.
+-- Each octet of the words lent after the edits of a list is what its origin says, and each byte of the result has exactly one.
+-- Assumes nothing.
 use mathlib.Core.Path.{_≡_, refl, sym, ap, _∙_}
-use mathlib.Core.Bool.{Bool, true, false, cond, _||_}
-use mathlib.Core.List.{List, [], _∷_, _++_, append-nil, map}
-use Prim.Native.Nat.{ℕ, _+_, _-_, _*_, _/_, _%_, _≤_, _<_}
-use native.Mathlib.Nat.{div-add-mod, mod-lt, div-lt-iff-lt-mul, mul-comm, mul-assoc}
+use mathlib.Core.Bool.{Bool, true, false, cond}
+use mathlib.Core.List.{List, [], _∷_, _++_, append-assoc, map, append-nil}
+use Prim.Native.Nat.{ℕ, zero, suc, _+_, _-_, _*_, _/_, _%_, _≤_, _<_}
+use native.Mathlib.Nat.{mul-suc, mul-zero, mul-assoc, mul-comm, div-add-mod, mod-lt, div-lt-iff-lt-mul, mul-add-div, mul-add-mod-self-left, div-eq-of-lt, mod-eq-of-lt}
 use native.Mathlib.Omega.{arith}
 use lib.Dec.{ltb}
-use lib.IntN.{pos, _-ℤ_}
-use lib.ListN.{length, getD, take, drop, replicate, length-take, List·getD-append, List·getD-eq-default}
-use lib.Seq.{getD-take, getD-drop, getD-append-add, take-at}
-use borrow.Author.Tests.{ltb-false}
-use Rattle.refusal.specs.Answer.{Answer, gives, refused, Verdict, pass, _▷_, guard, writes}
-use Rattle.refusal.proofs.Laws.{never-refused}
-use Rattle.ump.specs.Word.{octet, octets, Below}
-use Rattle.ump.specs.Packet.{Shape, sysex8, header, groupAt, idAt, packet, joined}
-use Rattle.ump.specs.Packing.{statusFor, frame, packsAt, packs, packetsFor, wordsFor, chunk, pack}
+use lib.ListN.{length, getD, take, drop, length-map}
+use lib.Seq.{slice, getD-take, getD-drop, take-at}
+use borrow.Author.Tests.{lt-ltb, le-ltb, eq-eqb}
+use Rattle.refusal.specs.Answer.{gives, pass}
+use Rattle.ump.specs.Word.{octets, Below, octet}
+use Rattle.ump.specs.Packet.{Shape, header, groupAt, idAt, joined, packet}
+use Rattle.ump.specs.Packing.{frame, statusFor, chunk, packetsFor, wordsFor, pack, packsAt, packs}
 use Rattle.ump.specs.Check.{check, payloadOf}
-use Rattle.ump.specs.Splice.{spliced, rewritten, Spliced, splice}
-use Rattle.ump.specs.Samples.{bytes6}
-use Rattle.ump.specs.Origin.{Origin, headerOctet, kept, replacement, filler, Numbers, newSize, byteOrigin, originOf, headerOctets, octetFrom, isHeader, isFiller, Carried, from-old, from-lent}
+use Rattle.ump.specs.Splice.{spliced, rewritten, Spliced, splice, repack}
+use Rattle.ump.specs.Edits.{Edit, Patch, patchAt, editsFor, endBefore, Apart, replaced, total}
+use Rattle.ump.specs.Origin.{headerOctets, Source, dumpByte, editByte, byteFrom, Origin, headerOctet, carried, filler, zeroed, untouched, originOf, originIn, octetFrom, sameSource, isFrom, isHeader, isFiller, howMany, inRange, Within, Traced}
+use Rattle.ump.specs.Holds.{Fewest}
+use Rattle.ump.proofs.Splicing.{group-fits, length-id, below-id, below-payload, below-spliced}
+use Rattle.ump.proofs.Words.{below-append, below-take, below-drop, getD-octets, zero-octet}
 use Rattle.ump.proofs.First.{Side, under, over, side}
-use Rattle.ump.proofs.Words.{getD-octets}
-use Rattle.ump.proofs.Sizes.{words-pos, status-small}
+use Rattle.ump.proofs.Sizes.{words-pos, packets-enough, status-small}
+use Rattle.ump.proofs.Positions.{octetAt, getD-frame, octet-of-pack}
+use Rattle.ump.proofs.Replace.{total-cong, total-zero}
+use Rattle.ump.proofs.Moving.{total-ge}
+use Rattle.ump.proofs.Counting.{total-split, total-front, total-add, total-const, below, total-below}
+use Rattle.ump.proofs.Demand.{rewritten-is-fewest}
+use Rattle.ump.proofs.Done.{known, packed}
+use Rattle.ump.proofs.Behind.{Behind, rewritten-behind}
 use Rattle.ump.proofs.Packing.{octets-frame, length-chunk, below-chunk, packet-packs}
-use Rattle.ump.proofs.Positions.{octetAt, frame-split, getD-frame}
-use Rattle.ump.proofs.Checks.{pass-both, or-left, or-right, passes-valid}
-use Rattle.ump.proofs.Splicing.{group-fits, length-id, below-id, below-payload, below-spliced, length-spliced, rewritten-fewest}
+use Rattle.ump.proofs.Sources.{sources, replaced-from, one, count, dump-once, patch-once}
+use Rattle.ump.proofs.Runs.{begins-at}
 
--- ---- a byte of the new payload
+-- ---- origins by a list of sources
 
-module _ (old : List ℕ) (from to : ℕ) (bytes : List ℕ) (ft : from ≤ to) (tl : to ≤ length old) where
-  abbrev new : List ℕ
-  new = spliced old from to bytes
+abbrev originBy : Shape → List Source → ℕ → Origin
+originBy s from q =
+    let p = q / (4 * s .words) in
+    let j = q % (4 * s .words) in
+    cond (ltb j (header s)) (headerOctet p j) (getD (map carried from) (s .room * p + (j - header s)) filler)
 
-  abbrev numbers : Numbers
-  numbers = record { size = length old; from = from; to = to; length = length bytes }
+abbrev howManyBy : Shape → List Source → ℕ → (Origin → Bool) → ℕ
+howManyBy s from len test = total (λ q. cond (test (originBy s from q)) 1 0) (4 * len)
 
-  new-size : length new ≡ newSize numbers
-  new-size = length-spliced old from to bytes ft tl
+module _ (s : Shape) (n : ℕ) (patches : List Patch) where
+  origin-by : (q : ℕ) → originOf s n (editsFor patches) q ≡ originBy s (sources n patches) q
+  unfolding originOf
+  origin-by q =
+      let p : ℕ = q / (4 * s .words) in
+      let j : ℕ = q % (4 * s .words) in
+      ap (λ (o : Origin). cond (ltb j (header s)) (headerOctet p j) o) (begins-at n patches (s .room * p + (j - header s)))
 
-  front : length (take from old) ≡ from
-  front = omega (arith, length-take from old)
+  how-many-by : (len : ℕ) (test : Origin → Bool) → howMany s n (editsFor patches) len test ≡ howManyBy s (sources n patches) len test
+  how-many-by len test = ap (λ (f : ℕ → Origin). total (λ q. cond (test (f q)) 1 0) (4 * len)) (λ d q. origin-by q d)
 
-  behind : (i : ℕ) → from ≤ i → getD new i 0 ≡ getD (bytes ++ drop to old) (i - from) 0
-  behind i h =
-      ap (λ (k : ℕ). getD new k 0) (omega (arith, front)) ∙ getD-append-add (take from old) (bytes ++ drop to old) (i - from) 0
+-- ---- the law of octets
 
-  -- byte i is what its origin says
-  byte-from : (s : Shape) (g : ℕ) (id : List ℕ) (n i : ℕ) → getD new i 0 ≡ octetFrom s g id n old bytes (byteOrigin numbers i)
-  unfolding byteOrigin
-  byte-from s g id n i = go (side i from) (side i (from + length bytes)) (side i (newSize numbers))
-    where
-      go : Side i from → Side i (from + length bytes) → Side i (newSize numbers)
-          → getD new i 0
-          ≡ octetFrom s g id n old bytes
-          (cond (ltb i from) (kept i)
-          (cond (ltb i (from + length bytes)) (replacement (i - from))
-          (cond (ltb i (newSize numbers)) (kept (to + (i - (from + length bytes)))) filler)))
-      go (under l e) y z = rw e (List·getD-append (take from old) (bytes ++ drop to old) 0 i (omega (arith, front)) ∙ getD-take from old i 0 l)
-      go (over l e) (under m f) z = rw (e, f) (behind i l ∙ List·getD-append bytes (drop to old) 0 (i - from) (omega arith))
-      go (over l e) (over m f) (under k h) =
-          rw (e, f, h)
-          (behind i l
-          ∙ ap (λ (k : ℕ). getD (bytes ++ drop to old) k 0) (omega arith)
-          ∙ getD-append-add bytes (drop to old) (i - (from + length bytes)) 0
-          ∙ getD-drop to old (i - (from + length bytes)) 0)
-      go (over l e) (over m f) (over k h) = rw (e, f, h) (List·getD-eq-default new 0 (omega (arith, new-size)))
-
--- ---- an octet of the fewest-packet form
-
--- octet j of packet p among all octets
-octet-of-packet : (s : Shape) (m : List ℕ) (p j : ℕ) → j < 4 * s .words → getD (octets (packet s m p)) j 0 ≡ getD (octets m) (4 * s .words * p + j) 0
-octet-of-packet s m p j h =
-    let a : ℕ = j / 4 in
-    let b : ℕ = j % 4 in
-    let e : 4 * a + b ≡ j = omega arith in
-    let l : b < 4 = omega arith in
-    let k : 4 * (s .words * p + a) + b ≡ 4 * s .words * p + j = omega (arith, mul-assoc 4 (s .words) p) in
-    ap (λ (x : ℕ). getD (octets (packet s m p)) x 0) (sym e)
-    ∙ getD-octets (packet s m p) a b l
-    ∙ ap (λ (x : ℕ). octet x b) (getD-take (s .words) (drop (s .words * p) m) a 0 (omega arith) ∙ getD-drop (s .words * p) m a 0)
-    ∙ sym (getD-octets m (s .words * p + a) b l)
-    ∙ ap (λ (x : ℕ). getD (octets m) x 0) k
-
-module _ (s : Shape) (g : ℕ) (id bs : List ℕ) (hg : g < 16) (ht : length id ≡ s .ids) (bt : Below 256 id) (bb : Below (s .limit) bs) where
-  abbrev packets : ℕ
-  packets = packetsFor s (length bs)
-
-  abbrev framed : ℕ → List ℕ
-  framed p = frame s (statusFor packets p) g id (chunk s bs p)
-
-  -- the header octets are those that begin the frame of a packet
-  pub header-is : (p : ℕ) → take (header s) (framed p) ≡ headerOctets s g id (length bs) p
-  header-is p = rw (frame-split s g id bs ht p) (take-at (headerOctets s g id (length bs) p) _ (header s) (omega arith))
-
-  octet-of-pack : (p j : ℕ) → p < packets → j < 4 * s .words → getD (octets (pack s g id bs)) (4 * s .words * p + j) 0 ≡ getD (framed p) j 0
-  unfolding pack packsAt
-  octet-of-pack p j hp l =
-      let m : List ℕ = packs s g id packets (chunk s bs) in
-      ap (λ (x : List ℕ). getD (octets x) (4 * s .words * p + j) 0) (sym (append-nil m))
-      ∙ sym (octet-of-packet s (m ++ []) p j l)
-      ∙ ap (λ (x : List ℕ). getD (octets x) j 0) (packet-packs s g id packets (chunk s bs) ht (length-chunk s bs) [] p hp)
-      ∙ ap (λ (x : List ℕ). getD x j 0)
-      (octets-frame s (statusFor packets p) g id (chunk s bs p) (omega (arith, status-small packets p)) hg ht (length-chunk s bs p) bt (below-chunk s bs bb p))
-
--- ---- what is known where a splice is done
-
-writes-given : {A : Type 0} (v : Verdict) (before written : List ℕ) (value : A) {x : A} {left : List ℕ} → writes v before value written ≡ (gives x, left)
-    → (v ≡ pass) × (value ≡ x) × (written ≡ left)
-writes-given {A} (gives u) before written value e = (refl, cc (ap (λ (o : Answer A × List ℕ). o .0) e), ap (λ (o : Answer A × List ℕ). o .1) e)
-writes-given {A} (refused number place) before written value e = never-refused (ap (λ (o : Answer A × List ℕ). o .0) e)
-
-guard-passed : (b : Bool) (number place : ℕ) → guard b number place ≡ pass → b ≡ false
-guard-passed true number place e = never-refused e
-guard-passed false number place e = refl
-
--- in range and with room, and the message written is the fewest-packet form of the new payload
-record Known (s : Shape) (words : List ℕ) (len from to : ℕ) (bytes : List ℕ) (change : Spliced) (left : List ℕ) : Type 0 where
-  passes : check s words len ≡ pass
-  forward : from ≤ to
-  inside : to ≤ length (payloadOf s words len)
-  room : wordsFor s (length (spliced (payloadOf s words len) from to bytes)) ≤ length words
-  length-is : wordsFor s (length (spliced (payloadOf s words len) from to bytes)) ≡ change .length
-  left-is : rewritten s words len (spliced (payloadOf s words len) from to bytes) ≡ left
-
-known : (s : Shape) (words : List ℕ) (len from to : ℕ) (bytes : List ℕ) (change : Spliced) (left : List ℕ)
-    → splice s words len from to bytes ≡ (gives change, left) → Known s words len from to bytes change left
-unfolding splice
-known s words len from to bytes change left e =
-    let old = payloadOf s words len in
-    let new = spliced old from to bytes in
-    let w =
-    writes-given
-    (check s words len
-    ▷ guard (ltb to from || ltb (length old) to) 13 0
-    ▷ guard (ltb len (wordsFor s (length old))) 19 0
-    ▷ guard (ltb (length words) (wordsFor s (length new))) 14 0)
-    words (rewritten s words len new) (record { length = wordsFor s (length new); growth = pos (length bytes) -ℤ pos (to - from) }) e
-    in
-    let last = guard (ltb (length words) (wordsFor s (length new))) 14 0 in
-    let spread = guard (ltb len (wordsFor s (length old))) 19 0 in
-    let outside = guard (ltb to from || ltb (length old) to) 13 0 in
-    let a = pass-both (check s words len) (outside ▷ spread ▷ last) (w .0) in
-    let b = pass-both outside (spread ▷ last) (a .1) in
-    let c = pass-both spread last (b .1) in
-    let range = guard-passed (ltb to from || ltb (length old) to) 13 0 (b .0) in
-    record {
-      passes = a .0;
-      forward = ltb-false to from (or-left (ltb to from) (ltb (length old) to) range);
-      inside = ltb-false (length old) to (or-right (ltb to from) (ltb (length old) to) range);
-      room = ltb-false (length words) (wordsFor s (length new)) (guard-passed (ltb (length words) (wordsFor s (length new))) 14 0 (c .1));
-      length-is = ap (λ (x : Spliced). x .length) (w .1);
-      left-is = w .2;
-    }
-
--- ---- an origin names a byte that is there
-
-abbrev Within : List ℕ → List ℕ → Origin → Type 0
-Within old bytes (headerOctet p j) = Unit {0}
-Within old bytes (kept i) = i < length old
-Within old bytes (replacement i) = i < length bytes
-Within old bytes filler = Unit {0}
-
-byte-within : (old : List ℕ) (from to : ℕ) (bytes : List ℕ) → from ≤ to → to ≤ length old → (i : ℕ)
-    → Within old bytes (byteOrigin (record { size = length old; from = from; to = to; length = length bytes }) i)
-unfolding byteOrigin
-byte-within old from to bytes ft tl i = go (side i from) (side i (from + length bytes)) (side i (length old - (to - from) + length bytes))
-  where
-    go : Side i from → Side i (from + length bytes) → Side i (length old - (to - from) + length bytes)
-        → Within old bytes
-        (cond (ltb i from) (kept i)
-        (cond (ltb i (from + length bytes)) (replacement (i - from))
-        (cond (ltb i (length old - (to - from) + length bytes)) (kept (to + (i - (from + length bytes)))) filler)))
-    go (under l e) y z = rw e (omega arith)
-    go (over l e) (under m f) z = rw (e, f) (omega arith)
-    go (over l e) (over m f) (under k h) = rw (e, f, h) (omega arith)
-    go (over l e) (over m f) (over k h) = rw (e, f, h) tt
-
-carried-by : (s : Shape) (g : ℕ) (id : List ℕ) (n : ℕ) (old bytes : List ℕ) (o : Origin) (x : ℕ) → x ≡ octetFrom s g id n old bytes o
-    → Within old bytes o → isHeader o ≡ false → isFiller o ≡ false → Carried old bytes x
-carried-by s g id n old bytes (headerOctet p j) x e w h f = let z : _≡_ {A = ℕ} 0 1 = cc in absurd (omega arith)
-carried-by s g id n old bytes (kept i) x e w h f = from-old i w e
-carried-by s g id n old bytes (replacement i) x e w h f = from-lent i w e
-carried-by s g id n old bytes filler x e w h f = let z : _≡_ {A = ℕ} 0 1 = cc in absurd (omega arith)
-
--- ---- the theorem
-
-module _ (s : Shape) (words : List ℕ) (len from to : ℕ) (bytes : List ℕ) (change : Spliced) (left : List ℕ)
-    (done : splice s words len from to bytes ≡ (gives change, left)) (small : Below (s .limit) bytes) where
-  abbrev group : ℕ
-  group = groupAt s words 0
-
-  abbrev id : List ℕ
-  id = idAt s words 0
-
-  abbrev old : List ℕ
-  old = payloadOf s words len
-
+module _ (s : Shape) (words : List ℕ) (len : ℕ) (patches : List Patch) (from : List Source)
+    (bb : Below (s .limit) (map (byteFrom (payloadOf s words len) patches) from))
+    (size : length (replaced (payloadOf s words len) patches) ≡ length from) where
   abbrev made : List ℕ
-  made = spliced old from to bytes
+  made = map (byteFrom (payloadOf s words len) patches) from
 
-  abbrev by : Numbers
-  by = record { size = length old; from = from; to = to; length = length bytes }
+  at : (ss : List Source) (n q : ℕ)
+      → getD (map (byteFrom (payloadOf s words len) patches) ss) n 0 ≡ octetFrom s words len patches q (getD (map carried ss) n filler)
+  at [] n q = refl
+  at (x ∷ ss) zero q = refl
+  at (x ∷ ss) (suc n) q = at ss n q
 
-  is : Known s words len from to bytes change left
-  is = known s words len from to bytes change left done
-
-  pub forward : from ≤ to
-  forward = is .forward
-
-  pub inside : to ≤ length old
-  inside = is .inside
-
-  pub length-by : change .length ≡ wordsFor s (newSize by)
-  length-by = sym (is .length-is) ∙ ap (wordsFor s) (new-size old from to bytes forward inside)
-
-  below-made : Below (s .limit) made
-  below-made = below-spliced (s .limit) old from to bytes (below-payload s words (len / s .words)) small
-
-  message-is : take (change .length) left ≡ pack s group id made
-  message-is =
-      rw (← (is .length-is), ← (is .left-is))
-      (rewritten-fewest s group id old (length words) words len
-      (record { valid = passes-valid s words len (is .passes); group-is = refl; id-is = refl; carries = refl; buffer = refl })
-      made below-made (is .room))
-
-  -- Each octet of the message after a splice that is done is what `originOf` says of its position.
-  pub octet-origin : (q : ℕ) → q < 4 * change .length
-      → getD (octets (take (change .length) left)) q 0 ≡ octetFrom s group id (newSize by) old bytes (originOf s by q)
-  unfolding originOf octetAt
-  octet-origin q h =
+  -- each octet of the fewest-packet form is what its origin says
+  octet-from : (q : ℕ) → q < 4 * wordsFor s (length from)
+      → getD (octets (pack s (groupAt s words 0) (idAt s words 0) made)) q 0 ≡ octetFrom s words len patches q (originBy s from q)
+  unfolding octetAt
+  octet-from q h =
       let whole : ℕ = 4 * s .words in
       let p : ℕ = q / whole in
       let j : ℕ = q % whole in
       let some : 0 < whole = omega (arith, words-pos s) in
       let l : j < whole = mod-lt q some in
       let e : whole * p + j ≡ q = div-add-mod q whole in
-      let all : 4 * change .length ≡ packetsFor s (length made) * whole =
-      ap (λ (x : ℕ). 4 * x) (sym (is .length-is)) ∙ sym (mul-assoc 4 (s .words) (packetsFor s (length made))) ∙ mul-comm whole (packetsFor s (length made))
+      let all : 4 * wordsFor s (length from) ≡ packetsFor s (length from) * whole =
+      sym (mul-assoc 4 (s .words) (packetsFor s (length from))) ∙ mul-comm whole (packetsFor s (length from))
       in
-      let hp : p < packetsFor s (length made) = div-lt-iff-lt-mul some .1 (rw all at h) in
-      ap (λ (x : List ℕ). getD (octets x) q 0) message-is
-      ∙ ap (λ (x : ℕ). getD (octets (pack s group id made)) x 0) (sym e)
-      ∙ octet-of-pack s group id made (group-fits s words 0) (length-id s words 0) (below-id s words 0) below-made p j hp l
-      ∙ go p j l (side j (header s))
+      let count : length made ≡ length from = length-map from (byteFrom (payloadOf s words len) patches) in
+      let hp : p < packetsFor s (length made) = rw count (div-lt-iff-lt-mul some .1 (rw all at h)) in
+      ap (λ (x : ℕ). getD (octets (pack s (groupAt s words 0) (idAt s words 0) made)) x 0) (sym e)
+      ∙ octet-of-pack s (groupAt s words 0) (idAt s words 0) made (group-fits s words 0) (length-id s words 0) (below-id s words 0) bb p j hp l
+      ∙ getD-frame s (groupAt s words 0) (idAt s words 0) made (length-id s words 0) p j l
+      ∙ go p j (count ∙ sym size) (side j (header s))
     where
-      go : (p j : ℕ) → j < 4 * s .words → Side j (header s)
-          → getD (frame s (statusFor (packetsFor s (length made)) p) group id (chunk s made p)) j 0
-          ≡ octetFrom s group id (newSize by) old bytes (cond (ltb j (header s)) (headerOctet p j) (byteOrigin by (s .room * p + (j - header s))))
-      go p j l (under k e) =
-          rw e
-          (rw e at (getD-frame s group id made (length-id s words 0) p j l)
-          ∙ ap (λ (n : ℕ). getD (headerOctets s group id n p) j 0) (new-size old from to bytes (is .forward) (is .inside)))
-      go p j l (over k e) =
-          rw e
-          (rw e at (getD-frame s group id made (length-id s words 0) p j l)
-          ∙ byte-from old from to bytes (is .forward) (is .inside) s group id (newSize by) (s .room * p + (j - header s)))
+      go : (p j : ℕ) → length made ≡ length (replaced (payloadOf s words len) patches) → Side j (header s)
+          → cond (ltb j (header s)) (getD (headerOctets s (groupAt s words 0) (idAt s words 0) (length made) p) j 0) (getD made (s .room * p + (j - header s)) 0)
+          ≡ octetFrom s words len patches q (cond (ltb j (header s)) (headerOctet p j) (getD (map carried from) (s .room * p + (j - header s)) filler))
+      go p j c (under k e) = rw e (ap (λ (n : ℕ). getD (headerOctets s (groupAt s words 0) (idAt s words 0) n p) j 0) c)
+      go p j c (over k e) = rw e (at from (s .room * p + (j - header s)) q)
 
-  within : (q : ℕ) → Within old bytes (originOf s by q)
-  unfolding originOf
-  within q = go (ltb (q % (4 * s .words)) (header s))
+-- ---- behind the message
+
+-- octet q among its words
+octet-in : (m : List ℕ) (q : ℕ) → getD (octets m) q 0 ≡ octet (getD m (q / 4) 0) (q % 4)
+octet-in m q =
+    let e : 4 * (q / 4) + q % 4 ≡ q = omega arith in
+    ap (λ (x : ℕ). getD (octets m) x 0) (sym e) ∙ getD-octets m (q / 4) (q % 4) (omega arith)
+
+octet-behind : (words : List ℕ) (most : ℕ) (left : List ℕ) (new : ℕ) → Behind words most left new → (q : ℕ) → 4 * new ≤ q
+    → getD (octets left) q 0 ≡ cond (ltb q (4 * most)) 0 (getD (octets words) q 0)
+octet-behind words most left new behind q h = octet-in left q ∙ ap (λ (x : ℕ). octet x (q % 4)) (behind .word (q / 4) (omega arith)) ∙ go (side (q / 4) most)
+  where
+    go : Side (q / 4) most → octet (cond (ltb (q / 4) most) 0 (getD words (q / 4) 0)) (q % 4) ≡ cond (ltb q (4 * most)) 0 (getD (octets words) q 0)
+    go (under l e) = rw (e, lt-ltb q (4 * most) (omega arith)) (zero-octet (q % 4) (omega arith))
+    go (over l e) = rw (e, le-ltb q (4 * most) (omega arith)) (sym (octet-in words q))
+
+-- an octet of the first words
+octet-front : (m : List ℕ) (n q : ℕ) → q < 4 * n → getD (octets m) q 0 ≡ getD (octets (take n m)) q 0
+octet-front m n q h =
+    octet-in m q ∙ ap (λ (x : ℕ). octet x (q % 4)) (sym (getD-take n m (q / 4) 0 (omega arith))) ∙ sym (octet-in (take n m) q)
+
+-- ---- sums over the octets of all packets: their headers, and their bytes one after the other
+
+module _ (s : Shape) (weight : ℕ → ℕ) (head : ℕ → ℕ → ℕ) (body : ℕ → ℕ)
+    (by : (p j : ℕ) → j < 4 * s .words → weight (4 * s .words * p + j) ≡ cond (ltb j (header s)) (head p j) (body (s .room * p + (j - header s)))) where
+  one-packet : (p : ℕ) → total (λ j. weight (4 * s .words * p + j)) (4 * s .words) ≡ total (head p) (header s) + total (λ i. body (s .room * p + i)) (s .room)
+  one-packet p =
+      let e : 4 * s .words ≡ header s + s .room = omega (arith, s .full) in
+      let f : ℕ → ℕ = λ j. weight (4 * s .words * p + j) in
+      let a : total f (header s) ≡ total (head p) (header s) =
+      total-cong f (head p) (header s) (λ j h. by p j (omega arith) ∙ rw (lt-ltb j (header s) h))
+      in
+      let b : total (λ i. f (header s + i)) (s .room) ≡ total (λ i. body (s .room * p + i)) (s .room) =
+      total-cong (λ i. f (header s + i)) (λ i. body (s .room * p + i)) (s .room)
+      (λ i h. by p (header s + i) (omega arith) ∙ rw (le-ltb (header s + i) (header s) (omega arith)) (ap (λ (x : ℕ). body (s .room * p + x)) (omega arith)))
+      in
+      ap (total f) e ∙ total-split f (header s) (s .room) ∙ rw (a, b)
+
+  all-packets : (k : ℕ) → total weight (4 * s .words * k) ≡ total (λ p. total (head p) (header s)) k + total body (s .room * k)
+  unfolding total
+  all-packets zero = rw (mul-zero (4 * s .words), mul-zero (s .room))
+  all-packets (suc k) =
+      rw (mul-suc (4 * s .words) k, mul-suc (s .room) k)
+      (omega (
+        arith,
+        total-split weight (4 * s .words * k) (4 * s .words),
+        total-split body (s .room * k) (s .room),
+        all-packets k,
+        one-packet k,
+      ))
+
+-- ---- how often an octet comes from a source
+
+module _ (s : Shape) (from : List Source) (weight : Origin → ℕ) where
+  abbrev needed : ℕ
+  needed = packetsFor s (length from)
+
+  at-octet : (p j : ℕ) → j < 4 * s .words
+      → weight (originBy s from (4 * s .words * p + j))
+      ≡ cond (ltb j (header s)) (weight (headerOctet p j)) (weight (getD (map carried from) (s .room * p + (j - header s)) filler))
+  at-octet p j h =
+      let whole : ℕ = 4 * s .words in
+      let some : 0 < whole = omega (arith, words-pos s) in
+      let d : (whole * p + j) / whole ≡ p = mul-add-div some p j ∙ ap (λ (y : ℕ). p + y) (div-eq-of-lt h) ∙ omega arith in
+      let m : (whole * p + j) % whole ≡ j = mul-add-mod-self-left whole p j ∙ mod-eq-of-lt h in
+      rw (d, m) (go (side j (header s)))
     where
-      go : (b : Bool)
-          → Within old bytes
-          (cond b (headerOctet (q / (4 * s .words)) (q % (4 * s .words)))
-          (byteOrigin by (s .room * (q / (4 * s .words)) + (q % (4 * s .words) - header s))))
-      go true = tt
-      go false = byte-within old from to bytes (is .forward) (is .inside) _
+      go : Side j (header s)
+          → weight (cond (ltb j (header s)) (headerOctet p j) (getD (map carried from) (s .room * p + (j - header s)) filler))
+          ≡ cond (ltb j (header s)) (weight (headerOctet p j)) (weight (getD (map carried from) (s .room * p + (j - header s)) filler))
+      go (under l e) = rw e
+      go (over l e) = rw e
 
-  -- Each octet that is neither header nor filler is a byte of the old payload, or one of the bytes lent, unchanged. So the headers
-  -- and the zeros of the filler are all that the library writes of its own.
-  pub carried : (q : ℕ) → q < 4 * change .length → isHeader (originOf s by q) ≡ false → isFiller (originOf s by q) ≡ false
-      → Carried old bytes (getD (octets (take (change .length) left)) q 0)
-  carried q h a b = carried-by s group id (newSize by) old bytes (originOf s by q) _ (octet-origin q h) (within q) a b
+  all-octets : total (λ q. weight (originBy s from q)) (4 * wordsFor s (length from))
+      ≡ total (λ p. total (λ j. weight (headerOctet p j)) (header s)) needed + total (λ i. weight (getD (map carried from) i filler)) (s .room * needed)
+  all-octets =
+      ap (total (λ q. weight (originBy s from q))) (sym (mul-assoc 4 (s .words) needed))
+      ∙ all-packets s (λ q. weight (originBy s from q)) (λ p j. weight (headerOctet p j)) (λ i. weight (getD (map carried from) i filler)) at-octet needed
 
--- ---- P6: 13 bytes put in at 1 into a payload of two
+all-hits : (x : Source) (ss : List Source) (n : ℕ) → length ss ≤ n → total (λ i. one (isFrom x (getD (map carried ss) i filler))) n ≡ count x ss
+unfolding count
+all-hits x [] n h = total-zero (λ i. one (isFrom x (getD (map carried []) i filler))) n (λ i. refl)
+all-hits x (y ∷ ss) zero h = absurd (omega arith)
+all-hits x (y ∷ ss) (suc n) h =
+    omega (arith, total-front (λ i. one (isFrom x (getD (map carried (y ∷ ss)) i filler))) n, all-hits x ss n (omega arith))
 
-abbrev numbers6 : Numbers
-numbers6 = record { size = 2; from = 1; to = 1; length = 13 }
+no-headers : (ss : List Source) (i : ℕ) → one (isHeader (getD (map carried ss) i filler)) ≡ 0
+no-headers [] i = refl
+no-headers (y ∷ ss) zero = refl
+no-headers (y ∷ ss) (suc i) = no-headers ss i
 
-abbrev origins6 : List Origin
-origins6 =
-    headerOctet 0 0 ∷ headerOctet 0 1 ∷ headerOctet 0 2 ∷ kept 0
-    ∷ replacement 0 ∷ replacement 1 ∷ replacement 2 ∷ replacement 3
-    ∷ replacement 4 ∷ replacement 5 ∷ replacement 6 ∷ replacement 7
-    ∷ replacement 8 ∷ replacement 9 ∷ replacement 10 ∷ replacement 11
-    ∷ headerOctet 1 0 ∷ headerOctet 1 1 ∷ headerOctet 1 2 ∷ replacement 12
-    ∷ kept 1 ∷ replicate 11 filler
+rest-filler : (ss : List Source) (i : ℕ) → one (isFiller (getD (map carried ss) i filler)) + below (length ss) i ≡ 1
+rest-filler [] i = rw (le-ltb i 0 (omega arith))
+rest-filler (y ∷ ss) zero = rw (lt-ltb 0 (suc (length ss)) (omega arith))
+rest-filler (y ∷ ss) (suc i) = go (side i (length ss)) (side (suc i) (suc (length ss))) (rest-filler ss i)
+  where
+    go : Side i (length ss) → Side (suc i) (suc (length ss)) → one (isFiller (getD (map carried ss) i filler)) + below (length ss) i ≡ 1
+        → one (isFiller (getD (map carried ss) i filler)) + below (suc (length ss)) (suc i) ≡ 1
+    go (under l e) (under m f) ih = rw f (rw e at ih)
+    go (under l e) (over m f) ih = absurd (omega arith)
+    go (over l e) (under m f) ih = absurd (omega arith)
+    go (over l e) (over m f) ih = rw f (rw e at ih)
 
-pub sample6 : (joined (λ q. originOf sysex8 numbers6 q ∷ []) 32 ≡ origins6)
-    × (map (octetFrom sysex8 2 (7 ∷ []) 15 (0x41 ∷ 0x42 ∷ []) bytes6) origins6
-    ≡ octets (0x521E0741 ∷ 0x10111213 ∷ 0x14151617 ∷ 0x18191A1B ∷ 0x5233071C ∷ 0x42000000 ∷ 0 ∷ 0 ∷ []))
-unfolding originOf byteOrigin joined octets statusFor packetsFor
-sample6 = (refl, refl)
+-- as many octets of the message come from there
+octets-count : (x : Source) (s : Shape) (from : List Source) → howManyBy s from (wordsFor s (length from)) (isFrom x) ≡ count x from
+octets-count x s from =
+    let k : ℕ = packetsFor s (length from) in
+    all-octets s from (λ o. one (isFrom x o))
+    ∙ omega (
+      arith,
+      total-zero (λ p. total (λ j. 0) (header s)) k (λ p. total-zero (λ j. 0) (header s) (λ j. refl)),
+      all-hits x from (s .room * k) (packets-enough s (length from)),
+    )
+
+header-octets : (s : Shape) (from : List Source) → howManyBy s from (wordsFor s (length from)) isHeader ≡ header s * packetsFor s (length from)
+header-octets s from =
+    let k : ℕ = packetsFor s (length from) in
+    all-octets s from (λ o. one (isHeader o))
+    ∙ omega (
+      arith,
+      total-zero (λ i. one (isHeader (getD (map carried from) i filler))) (s .room * k) (no-headers from),
+      total-cong (λ p. total (λ j. 1) (header s)) (λ p. header s) k (λ p l. total-const 1 (header s) ∙ omega arith),
+      total-const (header s) k,
+    )
+
+filler-octets : (s : Shape) (from : List Source)
+    → howManyBy s from (wordsFor s (length from)) isFiller ≡ s .room * packetsFor s (length from) - length from
+filler-octets s from =
+    let k : ℕ = packetsFor s (length from) in
+    let f : ℕ → ℕ = λ i. one (isFiller (getD (map carried from) i filler)) in
+    all-octets s from (λ o. one (isFiller o))
+    ∙ omega (
+      arith,
+      total-zero (λ p. total (λ j. 0) (header s)) k (λ p. total-zero (λ j. 0) (header s) (λ j. refl)),
+      total-add f (below (length from)) (s .room * k),
+      total-cong (λ i. f i + below (length from) i) (λ i. 1) (s .room * k) (λ i h. rest-filler from i),
+      total-const 1 (s .room * k),
+      total-below (length from) (s .room * k) (packets-enough s (length from)),
+    )
+
+same-self : (source : Source) → sameSource source source ≡ true
+same-self (dumpByte i) = eq-eqb i i refl
+same-self (editByte k j) = rw (eq-eqb k k refl, eq-eqb j j refl)
+
+-- Each byte comes exactly once: of a message whose bytes come from `sources`, one octet for each byte of the dump that stands in no
+-- range, none for one in a range or past the dump's end; one for each byte of each patch, and none else.
+module _ (s : Shape) (size : ℕ) (patches : List Patch) (apart : Apart patches size) where
+  abbrev from : List Source
+  from = sources size patches
+
+  kept-once : (i : ℕ) → i < size → ((k : ℕ) → k < length patches → inRange (patchAt patches k) i ≡ false) → howManyBy s from (wordsFor s (length from)) (isFrom (dumpByte i)) ≡ 1
+  kept-once i h out =
+      let m : ℕ = length patches in
+      let none : total (λ k. one (inRange (patchAt patches k) i)) m ≡ total (λ k. 0) m =
+      total-cong (λ k. one (inRange (patchAt patches k) i)) (λ k. 0) m (λ k l. rw (out k l))
+      in
+      octets-count (dumpByte i) s from
+      ∙ omega (arith, none, total-zero (λ k. 0) m (λ k. refl), rw (lt-ltb i size h) at (dump-once size patches apart i))
+
+  cut-never : (i k : ℕ) → k < length patches → inRange (patchAt patches k) i ≡ true → howManyBy s from (wordsFor s (length from)) (isFrom (dumpByte i)) ≡ 0
+  cut-never i k h e =
+      octets-count (dumpByte i) s from
+      ∙ go (side i size) (dump-once size patches apart i)
+      (rw e at (total-ge (λ l. one (inRange (patchAt patches l) i)) (length patches) k h))
+    where
+      go : {n t : ℕ} → Side i size → n + t ≡ below size i → 1 ≤ t → n ≡ 0
+      go (under l f) e t = omega (arith, rw f at e)
+      go (over l f) e t = omega (arith, rw f at e)
+
+  patch-octet-once : (k j : ℕ) → k < length patches → j < length (patchAt patches k .bytes) → howManyBy s from (wordsFor s (length from)) (isFrom (editByte k j)) ≡ 1
+  patch-octet-once k j h l =
+      octets-count (editByte k j) s from ∙ patch-once size patches apart k j ∙ rw (lt-ltb k (length patches) h, lt-ltb j (length (patchAt patches k .bytes)) l)
+
+  some-octet : (source : Source) (q : ℕ) → q < 4 * wordsFor s (length from) → originBy s from q ≡ carried source → 1 ≤ howManyBy s from (wordsFor s (length from)) (isFrom source)
+  some-octet source q h e = rw (e, same-self source) at (total-ge (λ r. one (isFrom source (originBy s from r))) (4 * wordsFor s (length from)) q h)
+
+  -- and each octet that is neither header nor filler comes from such a byte
+  pub within : (source : Source) (q : ℕ) → q < 4 * wordsFor s (length from) → originBy s from q ≡ carried source → Within size patches source
+  within (dumpByte i) q h e = (inside (side i size) (dump-once size patches apart i), λ k l. out k l (inRange (patchAt patches k) i) refl)
+    where
+      some : 1 ≤ count (dumpByte i) from
+      some = rw (octets-count (dumpByte i) s from) at (some-octet (dumpByte i) q h e)
+
+      inside : Side i size → count (dumpByte i) from + total (λ k. one (inRange (patchAt patches k) i)) (length patches) ≡ below size i → i < size
+      inside (under l f) d = l
+      inside (over l f) d = absurd (omega (arith, rw f at d, some))
+
+      out : (k : ℕ) → k < length patches → (b : Bool) → inRange (patchAt patches k) i ≡ b → b ≡ false
+      out k l true f = absurd (omega (arith, cut-never i k l f, some-octet (dumpByte i) q h e))
+      out k l false f = refl
+  within (editByte k j) q h e =
+      go (side k (length patches)) (side j (length (patchAt patches k .bytes))) (octets-count (editByte k j) s from ∙ patch-once size patches apart k j)
+    where
+      go : Side k (length patches) → Side j (length (patchAt patches k .bytes))
+          → howManyBy s from (wordsFor s (length from)) (isFrom (editByte k j)) ≡ cond (ltb k (length patches)) (below (length (patchAt patches k .bytes)) j) 0
+          → (k < length patches) × (j < length (patchAt patches k .bytes))
+      go (under l f) (under m g) d = (l, m)
+      go (under l f) (over m g) d = absurd (omega (arith, rw (f, g) at d, some-octet (editByte k j) q h e))
+      go (over l f) y d = absurd (omega (arith, rw f at d, some-octet (editByte k j) q h e))
+
+-- ---- the theorem
+
+below-joined : (m : ℕ) (f : ℕ → List ℕ) (n : ℕ) → ((i : ℕ) → i < n → Below m (f i)) → Below m (joined f n)
+unfolding joined
+below-joined m f zero h = tt
+below-joined m f (suc n) h = below-append m (joined f n) (f n) (below-joined m f n (λ i k. h i (omega arith))) (h n (omega arith))
+
+-- bytes all, if those of the dump and of the patches are
+pub below-replaced : (m : ℕ) (bytes : List ℕ) (patches : List Patch) → Below m bytes → ((k : ℕ) → k < length patches → Below m (patchAt patches k .bytes))
+    → Below m (replaced bytes patches)
+unfolding replaced
+below-replaced m bytes patches b small =
+    below-append m (joined (λ i. slice (endBefore patches i) (patchAt patches i .from) bytes ++ patchAt patches i .bytes) (length patches)) _
+    (below-joined m _ (length patches)
+    (λ k h. below-append m (slice (endBefore patches k) (patchAt patches k .from) bytes) (patchAt patches k .bytes)
+    (below-drop m (endBefore patches k) _ (below-take m (patchAt patches k .from) bytes b)) (small k h)))
+    (below-drop m (endBefore patches (length patches)) bytes b)
+
+module _ (s : Shape) (words : List ℕ) (len : ℕ) (patches : List Patch) (most : ℕ) (left : List ℕ) (new : ℕ)
+    (fewest : Fewest s (groupAt s words 0) (idAt s words 0) (replaced (payloadOf s words len) patches) (length words) left new)
+    (apart : Apart patches (length (payloadOf s words len))) (behind : Behind words most left new) where
+  abbrev old : List ℕ
+  old = payloadOf s words len
+
+  abbrev sourced : List Source
+  sourced = sources (length old) patches
+
+  new-is : replaced old patches ≡ map (byteFrom old patches) sourced
+  new-is = replaced-from old patches apart
+
+  size-is : length (replaced old patches) ≡ length sourced
+  size-is = ap length new-is ∙ length-map sourced (byteFrom old patches)
+
+  words-is : new ≡ wordsFor s (length sourced)
+  words-is = fewest .length-is ∙ ap (wordsFor s) size-is
+
+  below-new : Below (s .limit) (map (byteFrom old patches) sourced)
+  below-new = rw new-is at (rw (fewest .holds .carries) at (below-payload s left (new / s .words)))
+
+  in-message : (q : ℕ) → q < 4 * new → getD (octets left) q 0 ≡ octetFrom s words len patches q (originOf s (length old) (editsFor patches) q)
+  in-message q h =
+      octet-front left new q h
+      ∙ ap (λ (m : List ℕ). getD (octets m) q 0) (fewest .packed ∙ ap (pack s (groupAt s words 0) (idAt s words 0)) new-is)
+      ∙ octet-from s words len patches sourced below-new size-is q (rw words-is at h)
+      ∙ ap (octetFrom s words len patches q) (sym (origin-by s (length old) patches q))
+
+  octet-lent : (q : ℕ) → getD (octets left) q 0 ≡ octetFrom s words len patches q (originIn s (length old) (editsFor patches) new most q)
+  unfolding originIn
+  octet-lent q = go (side q (4 * new)) (side q (4 * most))
+    where
+      go : Side q (4 * new) → Side q (4 * most)
+          → getD (octets left) q 0
+          ≡ octetFrom s words len patches q (cond (ltb q (4 * new)) (originOf s (length old) (editsFor patches) q) (cond (ltb q (4 * most)) zeroed untouched))
+      go (under h e) y = rw e (in-message q h)
+      go (over h e) (under l f) = rw (e, f) ((rw f at (octet-behind words most left new behind q h)))
+      go (over h e) (over l f) = rw (e, f) ((rw f at (octet-behind words most left new behind q h)))
+
+  counted : (test : Origin → Bool) → howMany s (length old) (editsFor patches) new test ≡ howManyBy s sourced (wordsFor s (length sourced)) test
+  counted test = how-many-by s (length old) patches new test ∙ ap (λ (n : ℕ). howManyBy s sourced n test) words-is
+
+  pub traced : Traced s words len patches most left new
+  traced =
+      record {
+        lent = fewest .holds .buffer;
+        octet = λ q h. octet-lent q;
+        within = λ q source h e. within s (length old) patches apart source q (rw words-is at h) (sym (origin-by s (length old) patches q) ∙ e);
+        once = λ source w. counted (isFrom source) ∙ go source w;
+        headers = counted isHeader ∙ header-octets s sourced ∙ ap (λ (n : ℕ). header s * packetsFor s n) (sym size-is);
+        fillers = counted isFiller ∙ filler-octets s sourced ∙ ap (λ (n : ℕ). s .room * packetsFor s n - n) (sym size-is);
+      }
+    where
+      go : (source : Source) → Within (length old) patches source → howManyBy s sourced (wordsFor s (length sourced)) (isFrom source) ≡ 1
+      go (dumpByte i) w = kept-once s (length old) patches apart i (w .0) (w .1)
+      go (editByte k j) w = patch-octet-once s (length old) patches apart k j (w .0) (w .1)
+
+-- ---- a message rewritten with the patches done
+
+pub rewritten-traced : (s : Shape) (words : List ℕ) (len : ℕ) (patches : List Patch) → check s words len ≡ pass → Apart patches (length (payloadOf s words len))
+    → ((k : ℕ) → k < length patches → Below (s .limit) (patchAt patches k .bytes))
+    → wordsFor s (length (replaced (payloadOf s words len) patches)) ≤ length words
+    → Traced s words len patches len (rewritten s words len (replaced (payloadOf s words len) patches)) (wordsFor s (length (replaced (payloadOf s words len) patches)))
+rewritten-traced s words len patches passes apart small room =
+    let old : List ℕ = payloadOf s words len in
+    traced s words len patches len (rewritten s words len (replaced old patches)) (wordsFor s (length (replaced old patches)))
+    (rewritten-is-fewest s words len (replaced old patches) passes (below-replaced (s .limit) old patches (below-payload s words (len / s .words)) small) room)
+    apart (rewritten-behind s words len (replaced old patches))
+
+-- ---- one splice is a list of one
+
+abbrev pub single : ℕ → ℕ → List ℕ → List Patch
+single from to bytes = record { from = from; to = to; bytes = bytes } ∷ []
+
+replaced-single : (old : List ℕ) (from to : ℕ) (bytes : List ℕ) → replaced old (single from to bytes) ≡ spliced old from to bytes
+unfolding replaced joined
+replaced-single old from to bytes = append-assoc (take from old) bytes (drop to old)
+
+-- a fact of the only one
+only : (P : ℕ → Type 0) → P 0 → (i : ℕ) → i < 1 → P i
+only P x zero h = x
+only P x (suc i) h = absurd (omega arith)
+
+single-apart : (from to n : ℕ) (bytes : List ℕ) → from ≤ to → to ≤ n → Apart (single from to bytes) n
+single-apart from to n bytes h k =
+    record {
+      after = only (λ j. endBefore (single from to bytes) j ≤ patchAt (single from to bytes) j .from) (omega arith);
+      forward = only (λ j. patchAt (single from to bytes) j .from ≤ patchAt (single from to bytes) j .to) h;
+      inside = k;
+    }
+
+pub splice-traced : (s : Shape) (words : List ℕ) (len from to : ℕ) (bytes : List ℕ) (change : Spliced) (left : List ℕ)
+    → splice s words len from to bytes ≡ (gives change, left) → Below (s .limit) bytes
+    → Traced s words len (single from to bytes) len left (change .length)
+splice-traced s words len from to bytes change left done small =
+    let k = known s words len from to bytes change left done in
+    let old : List ℕ = payloadOf s words len in
+    let e : replaced old (single from to bytes) ≡ spliced old from to bytes = replaced-single old from to bytes in
+    rw (← (k .length-is), ← (k .left-is), ← e)
+    (rewritten-traced s words len (single from to bytes) (k .passes) (single-apart from to (length old) bytes (k .forward) (k .inside))
+    (only (λ j. Below (s .limit) (patchAt (single from to bytes) j .bytes)) small) (rw e (k .room)))
+
+-- ---- packing is a list of none
+
+replaced-none : (old : List ℕ) → replaced old [] ≡ old
+unfolding replaced joined
+replaced-none old = refl
+
+none-apart : (n : ℕ) → Apart [] n
+none-apart n = record { after = λ i h. absurd (omega arith); forward = λ i h. absurd (omega arith); inside = omega arith }
+
+pub repack-traced : (s : Shape) (words : List ℕ) (len new : ℕ) (left : List ℕ) → repack s words len ≡ (gives new, left) → Traced s words len [] len left new
+repack-traced s words len new left done =
+    let k = packed s words len new left done in
+    let e : replaced (payloadOf s words len) [] ≡ payloadOf s words len = replaced-none (payloadOf s words len) in
+    rw (← (k .length-is), ← (k .left-is), ← e)
+    (rewritten-traced s words len [] (k .passes) (none-apart (length (payloadOf s words len))) (λ i h. absurd (omega arith)) (rw e (k .room)))

@@ -3,19 +3,19 @@ use mathlib.Core.Path.{_≡_, refl, sym, ap, _∙_}
 use mathlib.Core.Bool.{cond}
 use mathlib.Core.List.{List, [], _∷_, _++_, append-nil}
 use Prim.Native.Nat.{ℕ, zero, suc, _+_, _-_, _*_, _/_, _%_, _≤_, _<_, min}
-use native.Mathlib.Nat.{div-add-mod, mod-lt, div-lt-iff-lt-mul, mul-comm}
+use native.Mathlib.Nat.{div-add-mod, mod-lt, div-lt-iff-lt-mul, mul-comm, mul-assoc}
 use native.Mathlib.Omega.{arith}
 use lib.Dec.{ltb}
-use lib.ListN.{length, getD, drop, replicate, length-take, length-drop, List·getD-append}
+use lib.ListN.{length, getD, take, drop, replicate, length-take, length-drop, List·getD-append}
 use lib.Seq.{getD-take, getD-drop, getD-append-add}
 use borrow.Author.Tests.{le-ltb}
-use Rattle.ump.specs.Word.{word}
-use Rattle.ump.specs.Packet.{Shape, sysex8, sysex7, header}
+use Rattle.ump.specs.Word.{word, octet, octets, Below}
+use Rattle.ump.specs.Packet.{Shape, sysex8, sysex7, header, packet}
 use Rattle.ump.specs.Packing.{statusFor, frame, packsAt, packs, packetsFor, wordsFor, chunk, pack}
 use Rattle.ump.specs.Origin.{headerOctets}
-use Rattle.ump.proofs.Words.{getD-wordsOf}
-use Rattle.ump.proofs.Sizes.{words-pos}
-use Rattle.ump.proofs.Packing.{length-frame, length-chunk, packet-packs}
+use Rattle.ump.proofs.Words.{getD-wordsOf, getD-octets}
+use Rattle.ump.proofs.Sizes.{words-pos, status-small}
+use Rattle.ump.proofs.Packing.{length-frame, length-chunk, packet-packs, octets-frame, below-chunk}
 use Rattle.ump.proofs.First.{Side, under, over, side}
 
 -- ---- the octets and words of n bytes, byte i of which is f i
@@ -135,3 +135,36 @@ unfolding wordAt octetAt
 word-head7 g n f k e =
     let z : 6 * (k / 2) + 0 ≡ 6 * (k / 2) = omega arith in
     rw (e, z)
+
+-- ---- an octet of the fewest-packet form, among all of them
+
+-- octet j of packet p among all octets
+octet-of-packet : (s : Shape) (m : List ℕ) (p j : ℕ) → j < 4 * s .words → getD (octets (packet s m p)) j 0 ≡ getD (octets m) (4 * s .words * p + j) 0
+octet-of-packet s m p j h =
+    let a : ℕ = j / 4 in
+    let b : ℕ = j % 4 in
+    let e : 4 * a + b ≡ j = omega arith in
+    let l : b < 4 = omega arith in
+    let k : 4 * (s .words * p + a) + b ≡ 4 * s .words * p + j = omega (arith, mul-assoc 4 (s .words) p) in
+    ap (λ (x : ℕ). getD (octets (packet s m p)) x 0) (sym e)
+    ∙ getD-octets (packet s m p) a b l
+    ∙ ap (λ (x : ℕ). octet x b) (getD-take (s .words) (drop (s .words * p) m) a 0 (omega arith) ∙ getD-drop (s .words * p) m a 0)
+    ∙ sym (getD-octets m (s .words * p + a) b l)
+    ∙ ap (λ (x : ℕ). getD (octets m) x 0) k
+
+module _ (s : Shape) (g : ℕ) (id bs : List ℕ) (hg : g < 16) (ht : length id ≡ s .ids) (bt : Below 256 id) (bb : Below (s .limit) bs) where
+  abbrev packets : ℕ
+  packets = packetsFor s (length bs)
+
+  abbrev framed : ℕ → List ℕ
+  framed p = frame s (statusFor packets p) g id (chunk s bs p)
+
+  pub octet-of-pack : (p j : ℕ) → p < packets → j < 4 * s .words → getD (octets (pack s g id bs)) (4 * s .words * p + j) 0 ≡ getD (framed p) j 0
+  unfolding pack packsAt
+  octet-of-pack p j hp l =
+      let m : List ℕ = packs s g id packets (chunk s bs) in
+      ap (λ (x : List ℕ). getD (octets x) (4 * s .words * p + j) 0) (sym (append-nil m))
+      ∙ sym (octet-of-packet s (m ++ []) p j l)
+      ∙ ap (λ (x : List ℕ). getD (octets x) j 0) (packet-packs s g id packets (chunk s bs) ht (length-chunk s bs) [] p hp)
+      ∙ ap (λ (x : List ℕ). getD x j 0)
+      (octets-frame s (statusFor packets p) g id (chunk s bs p) (omega (arith, status-small packets p)) hg ht (length-chunk s bs p) bt (below-chunk s bs bb p))

@@ -11,10 +11,24 @@ use lib.ListN.{length, take, drop, length-append, length-drop, take-append-drop}
 use lib.Seq.{slice, length-slice, take-take, take-at, drop-at}
 use Rattle.ump.specs.Packet.{joined}
 use Rattle.ump.specs.Splice.{spliced}
-use Rattle.ump.specs.Edits.{Patch, patchAt, endBefore, Apart, replaced, elem, total, added, removed, moved, allBytes, edited, Order}
+use Rattle.ump.specs.Edits.{Patch, patchAt, endBefore, Apart, replaced, elem, total, allBytes, Order}
 use Rattle.ump.proofs.Joined.{joined-cong, joined-around}
 use borrow.Author.Tests.{ne-eqb, eq-eqb, eqb-true}
 use Rattle.ump.proofs.First.{is-false, Side, under, over, side}
+
+-- ---- the range of a patch that is to be done, where ds are done, in plain numbers (Signed: it is the old one plus the signed growth)
+
+-- bytes put in, and bytes taken out, by those of the patches 0 .. i - 1 that are done
+abbrev pub added : List Patch → List ℕ → ℕ → ℕ
+added es ds i = total (λ j. cond (elem j ds) (length (patchAt es j .bytes)) 0) i
+
+abbrev pub removed : List Patch → List ℕ → ℕ → ℕ
+removed es ds i = total (λ j. cond (elem j ds) (patchAt es j .to - patchAt es j .from) 0) i
+
+abbrev pub moved : List Patch → List ℕ → ℕ → ℕ → ℕ
+moved es ds i x = x + added es ds i - removed es ds i
+
+-- ---- the payload where some are done
 
 pub take-slice : (f t : ℕ) (l : List ℕ) → f ≤ t → take f l ++ slice f t l ≡ take t l
 take-slice f t l h = rw (← (take-take f t l h)) (take-append-drop f (take t l))
@@ -69,7 +83,7 @@ module _ (p : List ℕ) (es : List Patch) (a : Apart es (length p)) where
       rw add-suc
       (le-trans (end-le i k (omega arith)) (le-trans (a .after (i + k) (omega arith)) (a .forward (i + k) (omega arith))))
 
-  to-le : (i : ℕ) → i < length es → patchAt es i .to ≤ length p
+  pub to-le : (i : ℕ) → i < length es → patchAt es i .to ≤ length p
   to-le i h =
       let e : suc i + (length es - suc i) ≡ length es = omega arith in
       le-trans (subst (λ (k : ℕ). patchAt es i .to ≤ endBefore es k) e (end-le (suc i) (length es - suc i) (omega arith))) (a .inside)
@@ -317,24 +331,10 @@ fresh i is ds u f j e = go (eqb j i) refl
     go false x = rw x (f j (or-right-true (eqb j i) (elem j is) e))
 
 module _ (p : List ℕ) (es : List Patch) (a : Apart es (length p)) where
-  -- after each step the payload is `mixed`, whose size is `size-mixed`
-  pub edited-is : (is ds : List ℕ) → Order (length es) is → ((j : ℕ) → elem j is ≡ true → elem j ds ≡ false)
-      → edited es ds is (mixed p es ds) ≡ mixed p es (after ds is)
-  unfolding edited
-  edited-is [] ds o f = refl
-  edited-is (i ∷ is) ds o f =
-      rw (step p es a ds i (o .0) (f i (elem-same i is)))
-      (edited-is is (i ∷ ds) (o .2) (fresh i is ds (is-false _ (o .1)) f))
-
   -- all done: all ranges replaced
   pub mixed-order : (order : List ℕ) → Order (length es) order → length order ≡ length es → mixed p es (after [] order) ≡ replaced p es
   mixed-order order o l =
       mixed-all p es (after [] order) (λ j k. elem-after j [] order ∙ or-left-true _ false (order-all (length es) order o l j k))
-
-  -- each edit spliced once, in any order, its range moved: the payload at the end has all ranges replaced at once
-  pub demand3-payload : (order : List ℕ) → Order (length es) order → length order ≡ length es → edited es [] order p ≡ replaced p es
-  demand3-payload order o l =
-      ap (edited es [] order) (sym (mixed-none p es a)) ∙ edited-is order [] o (λ j e. refl) ∙ mixed-order order o l
 
 -- ---- one edit more is done: the sums, and the ranges still to come, move by its growth
 
@@ -355,3 +355,17 @@ module _ (es : List Patch) (ds : List ℕ) (i k : ℕ) (u : elem i ds ≡ false)
 
   pub moved-higher : (x : ℕ) → k ≤ i → moved es (i ∷ ds) k x ≡ moved es ds k x
   moved-higher x h = rw (sum-higher (λ j. length (patchAt es j .bytes)) h, sum-higher (λ j. patchAt es j .to - patchAt es j .from) h)
+
+-- ---- where a patch may begin, if the first may at `start`
+
+abbrev pub endFrom : ℕ → List Patch → ℕ → ℕ
+endFrom start patches zero = start
+endFrom start patches (suc i) = patchAt patches i .to
+
+pub end-before : (patches : List Patch) (i : ℕ) → endBefore patches i ≡ endFrom 0 patches i
+end-before patches zero = refl
+end-before patches (suc i) = refl
+
+pub end-next : (patch : Patch) (patches : List Patch) (i : ℕ) → patchAt (patch ∷ patches) i .to ≡ endFrom (patch .to) patches i
+end-next patch patches zero = refl
+end-next patch patches (suc i) = refl

@@ -1,30 +1,32 @@
--- What is written to a message is the fewest-packet form of its new payload; and so it is after many splices, in any order.
--- Assumes nothing.
-use mathlib.Core.Path.{_≡_, refl, sym, _∙_, subst}
-use mathlib.Core.Bool.{true, false}
+-- What is written to a message is the fewest-packet form of its new payload. Assumes nothing.
+use mathlib.Core.Path.{_≡_, refl, _∙_}
 use mathlib.Core.List.{List, [], _∷_}
 use Prim.Native.Nat.{ℕ, zero, suc, _+_, _-_, _/_, _≤_, _<_}
 use native.Mathlib.Nat.{le-trans}
 use native.Mathlib.Omega.{arith}
-use lib.IntN.{ℤ, pos, _-ℤ_}
+use lib.IntN.{ℤ}
 use lib.ListN.{length, take, drop, length-append, length-take, length-drop, length-replicate}
 use lib.Seq.{take-at}
 use borrow.Author.Tests.{le-ltb}
-use Rattle.refusal.specs.Answer.{Answer, gives, pass}
+use Rattle.refusal.specs.Answer.{Answer, gives}
 use Rattle.ump.specs.Word.{octet, octets, Below}
 use Rattle.ump.specs.Packet.{Shape, header, firstWord, sizeAt, groupAt, idAt, packet, payloadAt, joined, payload}
 use Rattle.ump.specs.Packing.{wordsFor, pack}
-use Rattle.ump.specs.Check.{check, payloadOf}
-use Rattle.ump.specs.Splice.{spliced, stored, rewritten, repack, Spliced, splice}
-use Rattle.ump.specs.Edits.{Patch, patchAt, Apart, replaced, elem, allBytes, moved, run, Order}
-use Rattle.ump.specs.Demand.{Holds, Packed}
+use Rattle.ump.specs.Check.{payloadOf}
+use Rattle.ump.specs.Splice.{spliced, stored, rewritten, repack, growthBy, Spliced, splice}
+use Rattle.ump.specs.Holds.{Holds}
 use Rattle.ump.proofs.Words.{below-append, below-take, below-drop, below-map}
-use Rattle.ump.proofs.Sizes.{limit-pos, words-mono}
-use Rattle.ump.proofs.First.{is-false}
+use Rattle.ump.proofs.Sizes.{limit-pos}
 use Rattle.ump.proofs.Packing.{length-pack}
-use Rattle.ump.proofs.Checks.{valid-passes, passes-valid}
+use Rattle.ump.proofs.Checks.{valid-passes}
 use Rattle.ump.proofs.Message.{payloadOf-pack, group-of-pack, id-of-pack, pack-valid, no-spread}
-use Rattle.ump.proofs.Replace.{mixed, mixed-none, mixed-order, length-mixed, range-forward, range-inside, step, after, elem-same, fresh}
+
+-- an outcome that is no refusal, and whose message is the fewest-packet form of these bytes
+pub record Packed (shape : Shape) (group : ℕ) (id bytes : List ℕ) (lent : ℕ) (outcome : Answer Spliced × List ℕ) : Type 0 where
+  pub grew : ℤ
+  pub accepted : outcome .0 ≡ gives (record { length = wordsFor shape (length bytes); growth = grew })
+  pub holds : Holds shape group id bytes lent (outcome .1) (wordsFor shape (length bytes))
+  pub fewest : take (wordsFor shape (length bytes)) (outcome .1) ≡ pack shape group id bytes
 
 -- ---- what is read off a message fits where it is written
 
@@ -121,7 +123,7 @@ module _ (s : Shape) (g : ℕ) (id bs : List ℕ) (size : ℕ) (ws : List ℕ) (
   module _ (from to : ℕ) (r : List ℕ) (ft : from ≤ to) (tl : to ≤ length bs) (br : Below (s .limit) r)
       (room : wordsFor s (length (spliced bs from to r)) ≤ size) where
     pub splice-done : splice s ws len from to r
-        ≡ (gives (record { length = wordsFor s (length (spliced bs from to r)); growth = pos (length r) -ℤ pos (to - from) }), rewritten s ws len (spliced bs from to r))
+        ≡ (gives (record { length = wordsFor s (length (spliced bs from to r)); growth = growthBy from to (length r) }), rewritten s ws len (spliced bs from to r))
     unfolding splice
     splice-done =
         rw (
@@ -140,50 +142,8 @@ module _ (s : Shape) (g : ℕ) (id bs : List ℕ) (size : ℕ) (ws : List ℕ) (
     splice-packs =
         rw splice-done
         (record {
-          grew = pos (length r) -ℤ pos (to - from);
+          grew = growthBy from to (length r);
           accepted = refl;
           holds = rewritten-holds s g id bs size ws len h (spliced bs from to r) below-new room;
           fewest = rewritten-fewest s g id bs size ws len h (spliced bs from to r) below-new room;
         })
-
--- ---- many splices
-
-module _ (s : Shape) (g : ℕ) (id p : List ℕ) (size : ℕ) (es : List Patch) (a : Apart es (length p))
-    (bn : (i : ℕ) → i < length es → Below (s .limit) (patchAt es i .bytes)) (room : wordsFor s (length p + allBytes es) ≤ size) where
-  one : (i : ℕ) (ds : List ℕ) (ws : List ℕ) (len : ℕ) → Holds s g id (mixed p es ds) size ws len → i < length es → elem i ds ≡ false
-      → Packed s g id (mixed p es (i ∷ ds)) size (splice s ws len (moved es ds i (patchAt es i .from)) (moved es ds i (patchAt es i .to)) (patchAt es i .bytes))
-  one i ds ws len h l u =
-      let e = step p es a ds i l u in
-      let fits : wordsFor s (length (mixed p es (i ∷ ds))) ≤ size = le-trans (words-mono s _ _ (length-mixed p es a (i ∷ ds))) room in
-      rw e at
-      (splice-packs s g id (mixed p es ds) size ws len h (moved es ds i (patchAt es i .from)) (moved es ds i (patchAt es i .to)) (patchAt es i .bytes)
-      (range-forward p es a ds i l u) (range-inside p es a ds i l u) (bn i l) (rw e fits))
-
-  run-from : (is : List ℕ) (i : ℕ) (ds : List ℕ) (ws : List ℕ) (len : ℕ) (d : ℤ) → Holds s g id (mixed p es ds) size ws len → Order (length es) (i ∷ is)
-      → ((j : ℕ) → elem j (i ∷ is) ≡ true → elem j ds ≡ false)
-      → Packed s g id (mixed p es (after ds (i ∷ is))) size (run s es ds (i ∷ is) (gives (record { length = len; growth = d })) ws)
-  unfolding run
-  run-from [] i ds ws len d h o f = one i ds ws len h (o .0) (f i (elem-same i []))
-  run-from (k ∷ is) i ds ws len d h o f =
-      let r = one i ds ws len h (o .0) (f i (elem-same i (k ∷ is))) in
-      let out = splice s ws len (moved es ds i (patchAt es i .from)) (moved es ds i (patchAt es i .to)) (patchAt es i .bytes) in
-      subst (λ (x : Answer Spliced). Packed s g id (mixed p es (after ds (i ∷ k ∷ is))) size (run s es (i ∷ ds) (k ∷ is) x (out .1))) (sym (r .accepted))
-      (run-from is k (i ∷ ds) (out .1) _ (r .grew) (r .holds) (o .2) (fresh i (k ∷ is) ds (is-false _ (o .1)) f))
-
--- Demand 3. Edits of a valid message, each spliced once, in any order: no splice is refused, and the message at the end is the
--- fewest-packet form of the payload with all ranges replaced at once.
-pub demand3 : (s : Shape) (ws : List ℕ) (len : ℕ) (es : List Patch) (order : List ℕ)
-    → check s ws len ≡ pass
-    → Apart es (length (payloadOf s ws len))
-    → ((i : ℕ) → i < length es → Below (s .limit) (patchAt es i .bytes))
-    → wordsFor s (length (payloadOf s ws len) + allBytes es) ≤ length ws
-    → Order (length es) order → length order ≡ length es → 0 < length es
-    → Packed s (groupAt s ws 0) (idAt s ws 0) (replaced (payloadOf s ws len) es) (length ws) (run s es [] order (gives (record { length = len; growth = pos 0 })) ws)
-demand3 s ws len es [] v a bn room o l n = absurd (omega arith)
-demand3 s ws len es (i ∷ is) v a bn room o l n =
-    let p = payloadOf s ws len in
-    let h : Holds s (groupAt s ws 0) (idAt s ws 0) (mixed p es []) (length ws) ws len =
-    record { valid = passes-valid s ws len v; group-is = refl; id-is = refl; carries = sym (mixed-none p es a); buffer = refl }
-    in
-    rw (mixed-order p es a (i ∷ is) o l) at
-    (run-from s (groupAt s ws 0) (idAt s ws 0) p (length ws) es a bn room is i [] ws len (pos 0) h o (λ j e. refl))

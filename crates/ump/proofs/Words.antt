@@ -98,7 +98,7 @@ wordsOf-octets (w ∷ ws) h =
 
 -- ---- by position
 
-zero-octet : (q : ℕ) → q < 4 → octet 0 q ≡ 0
+pub zero-octet : (q : ℕ) → q < 4 → octet 0 q ≡ 0
 zero-octet zero h = refl
 zero-octet (suc zero) h = refl
 zero-octet (suc (suc zero)) h = refl

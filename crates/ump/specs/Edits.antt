@@ -2,16 +2,16 @@
 -- Assumes nothing.
 use mathlib.Core.Bool.{Bool, false, not, cond, _||_}
 use mathlib.Core.List.{List, [], _∷_, _++_}
-use Prim.Native.Nat.{ℕ, zero, suc, _+_, _-_, _*_, _/_, _%_, _≤_, _<_}
+use Prim.Native.Nat.{ℕ, zero, suc, _+_, _*_, _/_, _%_, _≤_, _<_}
 use lib.Dec.{T, eqb, ltb}
-use lib.IntN.{ℤ, pos, _+ℤ_, _-ℤ_}
+use lib.IntN.{ℤ, pos, negsuc, _+ℤ_, _-ℤ_}
 use lib.ListN.{length, getD, take, drop}
 use lib.Seq.{slice}
-use Rattle.refusal.specs.Answer.{Answer, gives, refused, _▷_, guard, writes}
+use Rattle.refusal.specs.Answer.{Answer, gives, refused, Verdict, _▷_, guard, writes}
 use Rattle.ump.specs.Packet.{Shape, joined}
 use Rattle.ump.specs.Packing.{wordsFor}
 use Rattle.ump.specs.Check.{check, payloadOf}
-use Rattle.ump.specs.Splice.{spliced, Spliced, rewritten, splice}
+use Rattle.ump.specs.Splice.{growthBy, Spliced, rewritten}
 
 -- an edit is from, to and replacement length
 pub record Edit : Type 0 where
@@ -23,9 +23,8 @@ pub record Range : Type 0 where
   pub from : ℕ
   pub to : ℕ
 
--- growth, replacement length minus range length, may be below zero
 abbrev pub growth : Edit → ℤ
-growth edit = pos (edit .length) -ℤ pos (edit .to - edit .from)
+growth edit = growthBy (edit .from) (edit .to) (edit .length)
 
 -- ---- moving an edit (01, module 8)
 
@@ -33,9 +32,14 @@ growth edit = pos (edit .length) -ℤ pos (edit .to - edit .from)
 abbrev pub badEdit : Edit → Bool
 badEdit edit = ltb (edit .to) (edit .from) || (ltb 53248 (edit .to) || ltb 53248 (edit .length))
 
+-- a signed number as a place (none is below zero)
+abbrev pub asPlace : ℤ → ℕ
+asPlace (pos n) = n
+asPlace (negsuc n) = 0
+
 -- a place behind a done edit, moved by its growth
 abbrev pub movedPast : Edit → ℕ → ℕ
-movedPast done x = x + done .length - (done .to - done .from)
+movedPast done x = asPlace (pos x +ℤ growth done)
 
 -- the pending edit's new range: Range (either edit), then Overlap
 unfoldable pub moveEdit : Edit → Edit → Bool → Answer Range
@@ -63,6 +67,11 @@ patchAt patches i = getD patches i none
 abbrev pub editAt : List Patch → ℕ → Edit
 editAt patches i =
     record { from = patchAt patches i .from; to = patchAt patches i .to; length = length (patchAt patches i .bytes) }
+
+-- patches by their numbers
+abbrev pub editsFor : List Patch → List Edit
+editsFor [] = []
+editsFor (patch ∷ patches) = record { from = patch .from; to = patch .to; length = length (patch .bytes) } ∷ editsFor patches
 
 -- where patch i may begin: the end of the one before it
 abbrev pub endBefore : List Patch → ℕ → ℕ
@@ -132,88 +141,47 @@ someOverlap end [] = false
 someOverlap end (edit ∷ edits) = ltb (edit .from) end || someOverlap (edit .to) edits
 
 -- 1 to 12, Range, Overlap, Room
+abbrev pub allChecks : Shape → List ℕ → ℕ → List ℕ → List ℕ → Verdict
+allChecks shape words len numbers bytes =
+    let old = payloadOf shape words len in
+    let new = replaced old (patchesOf (editsOf numbers) bytes) in
+    check shape words len
+    ▷ guard (badList (length old) (length bytes) numbers) 13 0
+    ▷ guard (someOverlap 0 (editsOf numbers)) 20 0
+    ▷ guard (ltb (length words) (wordsFor shape (length new))) 14 0
+
 unfoldable pub spliceAll : Shape → List ℕ → ℕ → List ℕ → List ℕ → Answer Spliced × List ℕ
 spliceAll shape words len numbers bytes =
     let old = payloadOf shape words len in
     let new = replaced old (patchesOf (editsOf numbers) bytes) in
-    writes
-    (check shape words len
-    ▷ guard (badList (length old) (length bytes) numbers) 13 0
-    ▷ guard (someOverlap 0 (editsOf numbers)) 20 0
-    ▷ guard (ltb (length words) (wordsFor shape (length new))) 14 0)
-    words
+    writes (allChecks shape words len numbers bytes) words
     (record { length = wordsFor shape (length new); growth = pos (length new) -ℤ pos (length old) })
     (rewritten shape words len new)
 
--- ---- one after the other: the range of a patch, moved by the lower-numbered ones already done
+-- ---- one after the other, in any order
 
 abbrev pub elem : ℕ → List ℕ → Bool
 elem i [] = false
 elem i (j ∷ js) = eqb i j || elem i js
+
+-- each number below m at most once; m of them: each exactly once
+abbrev pub Order : ℕ → List ℕ → Type 0
+Order m [] = Unit {0}
+Order m (i ∷ order) = (i < m) × T (not (elem i order)) × Order m order
 
 -- f 0 + f 1 + .. + f (n - 1)
 unfoldable pub total : (ℕ → ℕ) → ℕ → ℕ
 total f zero = 0
 total f (suc n) = total f n + f n
 
--- all replacement bytes
-abbrev pub allBytes : List Patch → ℕ
-allBytes patches = total (λ j. length (patchAt patches j .bytes)) (length patches)
-
--- bytes put in, and bytes taken out, by those of the patches 0 .. i - 1 that are done
-abbrev pub added : List Patch → List ℕ → ℕ → ℕ
-added patches done i = total (λ j. cond (elem j done) (length (patchAt patches j .bytes)) 0) i
-
-abbrev pub removed : List Patch → List ℕ → ℕ → ℕ
-removed patches done i = total (λ j. cond (elem j done) (patchAt patches j .to - patchAt patches j .from) 0) i
-
--- a place of patch i, moved by their growth
-abbrev pub moved : List Patch → List ℕ → ℕ → ℕ → ℕ
-moved patches done i x = x + added patches done i - removed patches done i
-
--- the same growth in signed numbers
 unfoldable pub totalℤ : (ℕ → ℤ) → ℕ → ℤ
 totalℤ f zero = pos 0
 totalℤ f (suc n) = totalℤ f n +ℤ f n
 
+-- all replacement bytes
+abbrev pub allBytes : List Patch → ℕ
+allBytes patches = total (λ j. length (patchAt patches j .bytes)) (length patches)
+
+-- the growth of those of the patches 0 .. i - 1 that are done
 abbrev pub grown : List Patch → List ℕ → ℕ → ℤ
 grown patches done i = totalℤ (λ j. cond (elem j done) (growth (editAt patches j)) (pos 0)) i
-
--- the range of patch k by repeated use of moving an edit, where `done`, the last first, are done
-unfoldable pub chase : List Patch → List ℕ → ℕ → Answer Range
-chase patches [] k = gives (record { from = patchAt patches k .from; to = patchAt patches k .to })
-chase patches (i ∷ done) k = moveBoth (chase patches done i) (chase patches done k)
-  where
-    lengthOf : ℕ → ℕ
-    lengthOf j = length (patchAt patches j .bytes)
-
-    moveBoth : Answer Range → Answer Range → Answer Range
-    moveBoth (refused number place) r = refused number place
-    moveBoth (gives d) (refused number place) = refused number place
-    moveBoth (gives d) (gives r) =
-        moveEdit (record { from = d .from; to = d .to; length = lengthOf i }) (record { from = r .from; to = r .to; length = lengthOf k })
-        (ltb i k)
-
--- the payload after the patches in the order given, those of `done` being done
-unfoldable pub edited : List Patch → List ℕ → List ℕ → List ℕ → List ℕ
-edited patches done [] bytes = bytes
-edited patches done (i ∷ order) bytes =
-    edited patches (i ∷ done) order
-    (spliced bytes (moved patches done i (patchAt patches i .from)) (moved patches done i (patchAt patches i .to))
-    (patchAt patches i .bytes))
-
--- the same on a message: the answer and the words after the last; a refusal ends it
-unfoldable pub run : Shape → List Patch → List ℕ → List ℕ → Answer Spliced → List ℕ → Answer Spliced × List ℕ
-run shape patches done [] answer words = (answer, words)
-run shape patches done (i ∷ order) (refused number place) words = (refused number place, words)
-run shape patches done (i ∷ order) (gives s) words =
-    let r =
-    splice shape words (s .length) (moved patches done i (patchAt patches i .from)) (moved patches done i (patchAt patches i .to))
-    (patchAt patches i .bytes)
-    in
-    run shape patches (i ∷ done) order (r .0) (r .1)
-
--- each number below m at most once; m of them: each exactly once
-abbrev pub Order : ℕ → List ℕ → Type 0
-Order m [] = Unit {0}
-Order m (i ∷ order) = (i < m) × T (not (elem i order)) × Order m order

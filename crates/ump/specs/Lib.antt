@@ -8,7 +8,11 @@ pub mod Reader
 pub mod Setters
 pub mod Splice
 pub mod Edits
-pub mod Demand
+pub mod Holds
 pub mod Stream
 pub mod Samples
+pub mod Runs
 pub mod Origin
+pub mod Traces
+pub mod Worker
+pub mod Demand

@@ -1,11 +1,11 @@
 -- The worked examples of document 01, P1 to P12, computed.
 -- Assumes nothing.
 use mathlib.Core.Path.{_≡_, refl}
-use mathlib.Core.Bool.{false}
+use mathlib.Core.Bool.{Bool, true, false}
 use mathlib.Core.List.{List, [], _∷_, _++_}
 use Prim.Native.Nat.{ℕ}
 use lib.IntN.{ℤ, pos, negsuc}
-use lib.ListN.{replicate}
+use lib.ListN.{length, replicate}
 use Rattle.refusal.specs.Answer.{Answer, gives, refused}
 use Rattle.ump.specs.Word.{octets, wordsOf}
 use Rattle.ump.specs.Packet.{sysex8, sysex7, sizeOf, payloadAt, joined, payload}
@@ -13,7 +13,7 @@ use Rattle.ump.specs.Packing.{statusFor, frame, packsAt, packs, packetsF
 use Rattle.ump.specs.Check.{first, badType, badStatus, badCount, badGroup, badId, statusNumber, checkPackets, check, payloadOf, Summary, checked}
 use Rattle.ump.specs.Single.{Packet, Kind, complete, end, unexpectedEnd, blank, readPacket8, readPacket7}
 use Rattle.ump.specs.Splice.{Spliced, stored, rewritten, repack, splice}
-use Rattle.ump.specs.Edits.{Patch, total, run}
+use Rattle.ump.specs.Edits.{Edit, Range, Patch, patchAt, moveEdit}
 use Rattle.ump.specs.Stream.{toSysex7}
 
 -- Where the buffer is longer than 01's words, the words behind are 9, so that what must stay is seen to stay.
@@ -43,9 +43,26 @@ patches8 = record { from = 0; to = 1; bytes = 0xB0 ∷ 0xB1 ∷ [] } ∷ record 
 abbrev pub patches9 : List Patch
 patches9 = record { from = 1; to = 1; bytes = 0xC0 ∷ [] } ∷ record { from = 1; to = 1; bytes = 0xC1 ∷ [] } ∷ []
 
--- P5's message, edited in this order
-abbrev edited5 : List Patch → List ℕ → Answer Spliced × List ℕ
-edited5 patches order = run sysex8 patches [] order (gives (record { length = 12; growth = pos 0 })) message5
+abbrev edit : Patch → Edit
+edit patch = record { from = patch .from; to = patch .to; length = length (patch .bytes) }
+
+-- the bytes of a pending edit spliced at its moved range, into what a splice left
+abbrev goOn : Answer Spliced × List ℕ → Answer Range → List ℕ → Answer Spliced × List ℕ
+goOn (gives change, words) (gives range) bytes = splice sysex8 words (change .length) (range .from) (range .to) bytes
+goOn (gives change, words) (refused number place) bytes = (refused number place, words)
+goOn (refused number place, words) range bytes = (refused number place, words)
+
+-- two edits of a message one after the other: this one, and that one moved past it; whether this one is first in the list
+abbrev pub inTurn : List ℕ → ℕ → Patch → Patch → Bool → Answer Spliced × List ℕ
+inTurn words len this that this-first =
+    goOn (splice sysex8 words len (this .from) (this .to) (this .bytes)) (moveEdit (edit this) (edit that) this-first) (that .bytes)
+
+-- P5's message with both edits of a list, the first one first, and the second one first
+abbrev up5 : List Patch → Answer Spliced × List ℕ
+up5 patches = inTurn message5 12 (patchAt patches 0) (patchAt patches 1) true
+
+abbrev down5 : List Patch → Answer Spliced × List ℕ
+down5 patches = inTurn message5 12 (patchAt patches 1) (patchAt patches 0) false
 
 abbrev message : ℕ → List ℕ → ℕ → ℕ → Answer Summary
 message group id size words = gives (record { group = group; id = id; size = size; words = words })
@@ -65,10 +82,10 @@ pub record Samples : Type 0 where
   pub P6 : splice sysex8 (message2 ++ replicate 4 9) 4 1 1 bytes6
       ≡ (done 8 (pos 13), 0x521E0741 ∷ 0x10111213 ∷ 0x14151617 ∷ 0x18191A1B ∷ 0x5233071C ∷ 0x42000000 ∷ 0 ∷ 0 ∷ [])
   pub P7 : splice sysex8 (message2 ++ replicate 3 9) 4 1 1 bytes6 ≡ (refused 14 0, message2 ++ replicate 3 9)
-  pub P8 : (edited5 patches8 (0 ∷ 1 ∷ []) ≡ (done 4 (negsuc 0), 0x510405B0 ∷ 0xB1A10000 ∷ replicate 10 0))
-      × (edited5 patches8 (1 ∷ 0 ∷ []) ≡ (done 4 (pos 1), 0x510405B0 ∷ 0xB1A10000 ∷ replicate 10 0))
-  pub P9 : (edited5 patches9 (0 ∷ 1 ∷ []) ≡ (done 4 (pos 1), 0x510605A0 ∷ 0xC0C1A1A2 ∷ replicate 10 0))
-      × (edited5 patches9 (1 ∷ 0 ∷ []) ≡ (done 4 (pos 1), 0x510605A0 ∷ 0xC0C1A1A2 ∷ replicate 10 0))
+  pub P8 : (up5 patches8 ≡ (done 4 (negsuc 0), 0x510405B0 ∷ 0xB1A10000 ∷ replicate 10 0))
+      × (down5 patches8 ≡ (done 4 (pos 1), 0x510405B0 ∷ 0xB1A10000 ∷ replicate 10 0))
+  pub P9 : (up5 patches9 ≡ (done 4 (pos 1), 0x510605A0 ∷ 0xC0C1A1A2 ∷ replicate 10 0))
+      × (down5 patches9 ≡ (done 4 (pos 1), 0x510605A0 ∷ 0xC0C1A1A2 ∷ replicate 10 0))
   pub P10 : (readPacket8 (alone 0x503F0900) ≡ single (unexpectedEnd false) 0 (9 ∷ []) 0)
       × (readPacket8 (alone 0x503F0901) ≡ refused 10 0)
       × (readPacket8 (alone 0x50320900) ≡ single end 0 (9 ∷ []) 1)
@@ -81,7 +98,7 @@ pub record Samples : Type 0 where
       ≡ (gives 4, 0x30160102 ∷ 0x03040506 ∷ 0x30310700 ∷ 0 ∷ 9 ∷ [])
 
 pub samples : Samples
-unfolding toSysex7 readPacket8 readPacket7 blank run total splice repack rewritten stored checked check checkPackets badType badStatus badCount badGroup badId statusNumber first payload payloadAt sizeOf octets pack packs packsAt packetsFor statusFor frame joined wordsOf
+unfolding toSysex7 readPacket8 readPacket7 blank moveEdit splice repack rewritten stored checked check checkPackets badType badStatus badCount badGroup badId statusNumber first payload payloadAt sizeOf octets pack packs packsAt packetsFor statusFor frame joined wordsOf
 samples = record {
   P1 = refl;
   P2 = (refl, refl);

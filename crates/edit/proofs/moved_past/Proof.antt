@@ -3,7 +3,7 @@ use borrow.Author.Needs.{needs}
 use mathlib.Core.Path.{ap}
 use native.Mathlib.Omega.{arith}
 use lib.IntN.{natAbs}
-use Rattle.edit.proofs.Laws.{sum-fits, sum-back}
+use Rattle.edit.proofs.Laws.{moved-small, sum-fits, sum-back}
 use Rattle.edit.proofs.moved_past.Statement.{statement}
 use Rattle.edit.proofs.moved_past.Tie as tie
 
@@ -15,7 +15,7 @@ add-result c =
 cast-result-2 : tie.Need-cast-result-2
 cast-result-2 c =
     let p = c .before .pre in
-    rw (sum-back _ (p .0) _ (c .growth-of .ensures) (p .1) (p .2)) (tt, omega arith)
+    rw (sum-back _ (p .0) _ (c .growth-of .ensures) (p .1) (p .2)) (tt, omega (arith, moved-small _ (p .0) _ (p .1) (p .2)))
 
 returns : tie.Need-returns
 returns c =

@@ -13,6 +13,7 @@ use Rattle.ump.specs.Packet.{sysex8}
 use Rattle.ump.specs.Packing.{wordsFor}
 use Rattle.ump.specs.Check.{payloadOf}
 use Rattle.ump.specs.Splice.{Spliced}
+use Rattle.ump.proofs.Signed.{growth-is}
 use Rattle.splice.proofs.Numbers.{words-number}
 use Rattle.splice.proofs.Messages.{inside, size-fits}
 use Rattle.edit.specs.Growth.{Sound}
@@ -84,6 +85,7 @@ returns-3 c =
     let d = start n in
     all-done _ _ _ _ (d .pre .passes) (given n) (room e) (n .words-needed .ensures)
     (growth-held _ (sound e) (c .growth-of .ensures)
+    ∙ growth-is 0 (d .args .size) (n .before .before .listed2 .given .0 .0) (omega arith)
     ∙ ap (λ (m : ℕ). pos (n .before .before .listed2 .given .0 .0) -ℤ pos m) (sub-zero (d .args .size) ∙ d .pre .sized))
     (a .do-all .ensures)
 

@@ -1,0 +1,149 @@
+-- Demand 3 over a shape and over any two calls that meet the definitions: whoever does edits one after the other, in any order and
+-- with any outcome that the calls allow, meets no refusal and comes to one message. Assumes nothing.
+use mathlib.Core.Path.{_≡_, refl, sym, ap, _∙_}
+use mathlib.Core.Bool.{Bool}
+use mathlib.Core.List.{List, [], _∷_}
+use Prim.Native.Nat.{ℕ, _-_, _*_, _≤_}
+use native.Mathlib.Nat.{mul-assoc, mul-le-mul-right}
+use native.Mathlib.Omega.{arith}
+use lib.ListN.{length, take}
+use Rattle.refusal.specs.Answer.{Answer, gives, pass}
+use Rattle.ump.specs.Word.{Below}
+use lib.Dec.{lit≤}
+use Rattle.ump.specs.Packet.{Shape, sysex8, sysex7, groupAt, idAt}
+use Rattle.ump.specs.Packing.{wordsFor, packetsFor, pack}
+use Rattle.ump.specs.Check.{check, payloadOf}
+use Rattle.ump.specs.Splice.{rewritten, Spliced, splice}
+use Rattle.ump.specs.Edits.{Edit, Patch, patchAt, editAt, replaced, Order}
+use Rattle.ump.specs.Holds.{Holds, Fewest}
+use Rattle.ump.specs.Worker.{Calls, Held, End, finished, stopped, Works, Finishes, Fits, bytesOf, start, Each, Placed, reached}
+use Rattle.ump.proofs.Meets.{View, Meets, Answers, mostBytes, plain, movedEdit, Begins}
+use Rattle.ump.proofs.Sizes.{packets-enough}
+use Rattle.ump.proofs.Checks.{passes-valid}
+use Rattle.ump.proofs.Replace.{mixed-none, mixed-order, after}
+use Rattle.ump.proofs.Splicing.{rewritten-holds, rewritten-fewest}
+use Rattle.ump.proofs.Moving.{editNow, none-moved}
+use Rattle.ump.proofs.Steps.{order-below, Ends, At, Has, works, placed, behind, goes}
+use Rattle.ump.proofs.Behind.{Behind}
+
+-- ---- the theorems
+
+-- a packet has at most 13 bytes for each four words, so that a message of 16,384 words has at most 53,248
+abbrev pub Dense : Shape → Type 0
+Dense s = 4 * s .room ≤ 13 * s .words
+
+most-small : (s : Shape) → Dense s → (n size : ℕ) → wordsFor s n ≤ size → size ≤ 16384 → n ≤ 53248
+most-small s dense n size w l =
+    let k : ℕ = packetsFor s n in
+    let bytes : n ≤ s .room * k = packets-enough s n in
+    let more : 4 * s .room * k ≤ 13 * s .words * k = mul-le-mul-right k dense in
+    omega (arith, mul-assoc 4 (s .room) k, mul-assoc 13 (s .words) k)
+
+-- two messages that are the fewest-packet form of the same bytes, with one group and id: the same length and the same words. (Words
+-- past the message may differ.)
+pub same-message : {s : Shape} {g g-other : ℕ} {id id-other bytes bytes-other : List ℕ} {lent lent-other len len-other : ℕ} {words other : List ℕ}
+    → g ≡ g-other → id ≡ id-other → bytes ≡ bytes-other
+    → Fewest s g id bytes lent words len → Fewest s g-other id-other bytes-other lent-other other len-other
+    → (len ≡ len-other) × (take len words ≡ take len-other other)
+same-message {s} {g-other = g-other} {id = id} {id-other = id-other} {bytes = bytes} e i b f h = (
+  f .length-is ∙ ap (λ (x : List ℕ). wordsFor s (length x)) b ∙ sym (h .length-is),
+  f .packed ∙ ap (λ (x : ℕ). pack s x id bytes) e ∙ ap (λ (x : List ℕ). pack s g-other x bytes) i ∙ ap (pack s g-other id-other) b ∙ sym (h .packed),
+)
+
+-- a valid message rewritten with other bytes, where there is room, is their fewest-packet form
+pub rewritten-is-fewest : (s : Shape) (words : List ℕ) (len : ℕ) (new : List ℕ) → check s words len ≡ pass → Below (s .limit) new
+    → wordsFor s (length new) ≤ length words
+    → Fewest s (groupAt s words 0) (idAt s words 0) new (length words) (rewritten s words len new) (wordsFor s (length new))
+rewritten-is-fewest s words len new ok small room =
+    let h : Holds s (groupAt s words 0) (idAt s words 0) (payloadOf s words len) (length words) words len =
+    record { valid = passes-valid s words len ok; group-is = refl; id-is = refl; carries = refl; buffer = refl }
+    in
+    record {
+      length-is = refl;
+      packed = rewritten-fewest s _ _ _ (length words) words len h new small room;
+      holds = rewritten-holds s _ _ _ (length words) words len h new small room;
+    }
+
+module _ {Lent Record : Type 0} {s : Shape} (dense : Dense s) {view : View Lent Record} {calls : Calls Lent Record} {patches : List Patch} {held : Held Lent Record}
+    (fits : Fits s (view .wordsOf (held .lent)) (held .length) patches)
+    (meets : Meets s (mostBytes s (view .wordsOf (held .lent)) (held .length) patches) view calls)
+    (begins : Begins s view patches held) where
+  abbrev words : List ℕ
+  words = view .wordsOf (held .lent)
+
+  abbrev group : ℕ
+  group = groupAt s words 0
+
+  abbrev id : List ℕ
+  id = idAt s words 0
+
+  abbrev payload : List ℕ
+  payload = payloadOf s words (held .length)
+
+  small : mostBytes s words (held .length) patches ≤ 53248
+  small = most-small s dense _ (length words) (fits .room) (passes-valid s words (held .length) (fits .passes) .short-enough)
+
+  abbrev HasNow : List ℕ → Lent → ℕ → Type 0
+  HasNow = Has s view calls group id payload (length words) patches (fits .apart) (fits .bytes) (fits .room) small meets
+
+  at-first : (order : List ℕ) → Order (length patches) order
+      → At s view calls group id payload (length words) patches (fits .apart) (fits .bytes) (fits .room) small meets [] order held
+  at-first order o =
+      record {
+        holds = record {
+          valid = passes-valid s words (held .length) (fits .passes);
+          group-is = refl;
+          id-is = refl;
+          carries = sym (mixed-none payload patches (fits .apart));
+          buffer = refl;
+        };
+        beside = begins .beside;
+        edits = λ k e. begins .edits k (order-below (length patches) k order o e) ∙ none k;
+        cut = λ k e. rw (mixed-none payload patches (fits .apart)) (begins .cut k (order-below (length patches) k order o e));
+        each = o;
+        left = λ k e. refl;
+      }
+    where
+      none : (k : ℕ) → editAt patches k ≡ editNow patches [] k
+      none k = rw (← (none-moved patches k (patchAt patches k .from)), ← (none-moved patches k (patchAt patches k .to)))
+
+  ends : (i : ℕ) (order : List ℕ) → Order (length patches) (i ∷ order) → (end : End Lent) → Works calls (bytesOf patches) held (i ∷ order) end
+      → Ends (HasNow (after [] (i ∷ order))) end
+  ends i order o end w =
+      works s view calls group id payload (length words) patches (fits .apart) (fits .bytes) (fits .room) small meets order i [] held end (at-first (i ∷ order) o) w
+
+  -- 1. No call is refused: in no order, of all the edits or of some, does a worker stop at a refusal of a splice or of a move.
+  pub no-refusal : (order : List ℕ) → Order (length patches) order → {number place : ℕ} → Works calls (bytesOf patches) held order (stopped number place) → ⊥
+  no-refusal (i ∷ order) o w = ends i order o _ w
+
+  has : (order : List ℕ) → Each patches order → {left : Lent} {len : ℕ} → Works calls (bytesOf patches) held order (finished left len)
+      → HasNow (after [] order) left len
+  has [] (o, l) w = absurd (omega (arith, fits .some))
+  has (i ∷ order) (o, l) {left} {len} w = ends i order o (finished left len) w
+
+  -- 2. The message at the end is the fewest-packet form of the payload with all ranges replaced at once, and what stands beside it is right.
+  pub result : (order : List ℕ) → Each patches order → {left : Lent} {len : ℕ} → Works calls (bytesOf patches) held order (finished left len)
+      → Fewest s (groupAt s words 0) (idAt s words 0) (replaced (payloadOf s words (held .length)) patches) (length words) (view .wordsOf left) len
+  result order each w = rw (mixed-order payload patches (fits .apart) order (each .0) (each .1)) at (has order each w .fewest)
+
+  pub result-beside : (order : List ℕ) → Each patches order → {left : Lent} {len : ℕ} → Works calls (bytesOf patches) held order (finished left len)
+      → view .Beside left len
+  result-beside order each w = has order each w .beside
+
+  -- 3. In each order, of all the edits or of some, there is a worker that finishes, if the calls have an outcome where the definitions give one.
+  pub finishes : Answers s (mostBytes s words (held .length) patches) view calls → (order : List ℕ) → Order (length patches) order
+      → Finishes calls (bytesOf patches) held order
+  finishes answers order o =
+      goes s view calls group id payload (length words) patches (fits .apart) (fits .bytes) (fits .room) small meets answers order [] held (at-first order o)
+
+  -- 4. Each edit that a worker splices stands at its old range, plus the signed growth of the lower-numbered ones already done.
+  pub places : (order : List ℕ) → Order (length patches) order → {end : End Lent} → (w : Works calls (bytesOf patches) held order end)
+      → Placed (view .editOf) patches [] w
+  places order o {end} w =
+      placed s view calls group id payload (length words) patches (fits .apart) (fits .bytes) (fits .room) small meets order [] held end (at-first order o) w
+
+  -- 5. Behind the message each word is zero where one stood on the way, else it is as it was.
+  pub rest : (order : List ℕ) → Order (length patches) order → {left : Lent} {size : ℕ} → (w : Works calls (bytesOf patches) held order (finished left size))
+      → Behind words (reached w) (view .wordsOf left) size
+  rest order o {left} {size} w =
+      behind s view calls group id payload (length words) patches (fits .apart) (fits .bytes) (fits .room) small meets order [] held (finished left size) (at-first order o) w

@@ -1,0 +1,108 @@
+-- Demand 3 over a shape and over any two calls that meet the definitions, as one statement; its uses by calls on words alone.
+-- Assumes nothing.
+use mathlib.Core.Path.{_≡_, refl, sym, ap, _∙_}
+use mathlib.Core.Bool.{Bool}
+use mathlib.Core.List.{List}
+use Prim.Native.Nat.{ℕ}
+use lib.Dec.{lit≤}
+use lib.ListN.{length, take}
+use Rattle.refusal.specs.Answer.{Answer, gives}
+use Rattle.ump.specs.Packet.{Shape, sysex8, sysex7, groupAt, idAt}
+use Rattle.ump.specs.Check.{payloadOf}
+use Rattle.ump.specs.Splice.{Spliced, splice}
+use Rattle.ump.specs.Edits.{Edit, Patch, replaced}
+use Rattle.ump.specs.Worker.{Calls, Held, Works, finished, Fits, bytesOf, start, Each, reached}
+use Rattle.ump.specs.Demand.{Demand3}
+use Rattle.ump.proofs.Meets.{movedEdit, View, plain, Meets, Answers, mostBytes, Begins}
+use Rattle.ump.proofs.Demand.{Dense, same-message, no-refusal, result, finishes, places, rest}
+use Rattle.ump.proofs.Origins.{traced}
+
+pub demand3 : {Lent Record : Type 0} {s : Shape} → Dense s → {view : View Lent Record} {calls : Calls Lent Record} {patches : List Patch} {held : Held Lent Record}
+    → Fits s (view .wordsOf (held .lent)) (held .length) patches
+    → Meets s (mostBytes s (view .wordsOf (held .lent)) (held .length) patches) view calls
+    → Answers s (mostBytes s (view .wordsOf (held .lent)) (held .length) patches) view calls
+    → Begins s view patches held → Demand3 s (view .wordsOf) (view .editOf) calls patches held
+demand3 {s = s} dense {view} {patches = patches} {held = held} fits meets answers begins =
+    record {
+      no-refusal = no-refusal dense fits meets begins;
+      finishes = finishes dense fits meets begins answers;
+      places = places dense fits meets begins;
+      result = result dense fits meets begins;
+      origins = λ order each {left} {size} w.
+          traced s (view .wordsOf (held .lent)) (held .length) patches (reached w) (view .wordsOf left) size
+          (result dense fits meets begins order each w) (fits .apart) (rest dense fits meets begins order (each .0) w);
+    }
+
+-- Two workers, by the same calls or by others, each with words of its own, whose messages have one group, id and payload, each in an
+-- order of its own and with any outcomes of its calls: the same length and the same words of the message. (Words past it may differ.)
+pub two-workers : {Lent Record Lent′ Record′ : Type 0} {s : Shape} {wordsOf : Lent → List ℕ} {wordsOf′ : Lent′ → List ℕ}
+    {editOf : Record → Edit} {editOf′ : Record′ → Edit} {calls : Calls Lent Record} {calls′ : Calls Lent′ Record′} {patches : List Patch}
+    {held : Held Lent Record} {held′ : Held Lent′ Record′}
+    → Demand3 s wordsOf editOf calls patches held → Demand3 s wordsOf′ editOf′ calls′ patches held′
+    → groupAt s (wordsOf (held .lent)) 0 ≡ groupAt s (wordsOf′ (held′ .lent)) 0
+    → idAt s (wordsOf (held .lent)) 0 ≡ idAt s (wordsOf′ (held′ .lent)) 0
+    → payloadOf s (wordsOf (held .lent)) (held .length) ≡ payloadOf s (wordsOf′ (held′ .lent)) (held′ .length)
+    → {order order′ : List ℕ} → Each patches order → Each patches order′ → {left : Lent} {left′ : Lent′} {size size′ : ℕ}
+    → Works calls (bytesOf patches) held order (finished left size) → Works calls′ (bytesOf patches) held′ order′ (finished left′ size′)
+    → (size ≡ size′) × (take size (wordsOf left) ≡ take size′ (wordsOf′ left′))
+two-workers {patches = patches} d d′ g i p {order} {order′} e e′ w w′ =
+    same-message g i (ap (λ (x : List ℕ). replaced x patches) p) (d .result order e w) (d′ .result order′ e′ w′)
+
+-- ---- calls on words alone, with edits that know no size
+
+-- where the definitions accept, each outcome of the two calls is theirs
+pub record PlainMeets (s : Shape) (calls : Calls (List ℕ) Edit) : Type 0 where
+  pub splices : {words left : List ℕ} {len : ℕ} {edit : Edit} {bytes : List ℕ} {answer : Answer Spliced} {change : Spliced} {after : List ℕ}
+      → splice s words len (edit .from) (edit .to) bytes ≡ (gives change, after) → calls .Splices words len edit bytes answer left
+      → _≡_ {A = Answer Spliced × List ℕ} (answer, left) (gives change, after)
+  pub moves : {done pending edit : Edit} {done-first : Bool} {answer : Answer Edit}
+      → movedEdit done pending done-first ≡ gives edit → calls .Moves done pending done-first answer → answer ≡ gives edit
+
+-- and there is one
+pub record PlainAnswers (s : Shape) (calls : Calls (List ℕ) Edit) : Type 0 where
+  pub can-splice : {words left : List ℕ} {len : ℕ} {edit : Edit} {bytes : List ℕ} {change : Spliced}
+      → splice s words len (edit .from) (edit .to) bytes ≡ (gives change, left) → calls .Splices words len edit bytes (gives change) left
+  pub can-move : {done pending edit : Edit} {done-first : Bool} → movedEdit done pending done-first ≡ gives edit → calls .Moves done pending done-first (gives edit)
+
+pub plain-demand3 : {s : Shape} → Dense s → {calls : Calls (List ℕ) Edit} → PlainMeets s calls → PlainAnswers s calls
+    → {words : List ℕ} {len : ℕ} {patches : List Patch} → Fits s words len patches
+    → Demand3 s (λ words. words) (λ edit. edit) calls patches (start words len patches)
+plain-demand3 {s} dense {calls} meets answers fits = demand3 dense {view = plain} fits met answered (record { beside = tt; edits = λ k h. refl; cut = λ k h. tt })
+  where
+    met : {most : ℕ} → Meets s most plain calls
+    met =
+        record {
+          splices = λ b c r e call. record {
+            answer-is = ap (λ (o : Answer Spliced × List ℕ). o .0) (meets .splices e call);
+            words-are = ap (λ (o : Answer Spliced × List ℕ). o .1) (meets .splices e call);
+            beside = tt;
+          };
+          moves = λ c d i j e call. record { moved = _; answer-is = meets .moves e call; edit-is = refl; cut = tt };
+        }
+
+    answered : {most : ℕ} → Answers s most plain calls
+    answered =
+        record {
+          can-splice = λ b c r e. record { left = _; call = answers .can-splice e };
+          can-move = λ c d i j e. record { edit = _; call = answers .can-move e };
+        }
+
+-- ---- calls that promise just the definitions, for any shape
+
+abbrev pub defined : Shape → Calls (List ℕ) Edit
+defined s =
+    record {
+      Splices = λ words len edit bytes answer left. _≡_ {A = Answer Spliced × List ℕ} (answer, left) (splice s words len (edit .from) (edit .to) bytes);
+      Moves = λ done pending done-first answer. answer ≡ movedEdit done pending done-first;
+    }
+
+pub defined-demand3 : {s : Shape} → Dense s → {words : List ℕ} {len : ℕ} {patches : List Patch} → Fits s words len patches
+    → Demand3 s (λ words. words) (λ edit. edit) (defined s) patches (start words len patches)
+defined-demand3 dense =
+    plain-demand3 dense (record { splices = λ e call. call ∙ e; moves = λ e call. call ∙ e }) (record { can-splice = λ e. sym e; can-move = λ e. sym e })
+
+pub dense8 : Dense sysex8
+dense8 = lit≤ tt
+
+pub dense7 : Dense sysex7
+dense7 = lit≤ tt

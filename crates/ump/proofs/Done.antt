@@ -1,0 +1,86 @@
+-- What is known where a splice or a packing is done. Assumes nothing.
+use mathlib.Core.Path.{_≡_, refl, ap}
+use mathlib.Core.Bool.{Bool, true, false, _||_}
+use mathlib.Core.List.{List}
+use Prim.Native.Nat.{ℕ, _≤_}
+use lib.Dec.{ltb}
+use lib.ListN.{length}
+use borrow.Author.Tests.{ltb-false}
+use Rattle.refusal.specs.Answer.{Answer, gives, refused, Verdict, pass, _▷_, guard, writes}
+use Rattle.refusal.proofs.Laws.{never-refused}
+use Rattle.ump.specs.Packet.{Shape}
+use Rattle.ump.specs.Packing.{wordsFor}
+use Rattle.ump.specs.Check.{check, payloadOf}
+use Rattle.ump.specs.Splice.{spliced, rewritten, growthBy, Spliced, splice, repack}
+use Rattle.ump.proofs.Checks.{pass-both, or-left, or-right}
+
+pub writes-given : {A : Type 0} (v : Verdict) (before written : List ℕ) (value : A) {x : A} {left : List ℕ} → writes v before value written ≡ (gives x, left)
+    → (v ≡ pass) × (value ≡ x) × (written ≡ left)
+writes-given {A} (gives u) before written value e = (refl, cc (ap (λ (o : Answer A × List ℕ). o .0) e), ap (λ (o : Answer A × List ℕ). o .1) e)
+writes-given {A} (refused number place) before written value e = never-refused (ap (λ (o : Answer A × List ℕ). o .0) e)
+
+pub guard-passed : (b : Bool) (number place : ℕ) → guard b number place ≡ pass → b ≡ false
+guard-passed true number place e = never-refused e
+guard-passed false number place e = refl
+
+-- in range and with room, and the message written is the fewest-packet form of the new payload
+pub record Known (s : Shape) (words : List ℕ) (len from to : ℕ) (bytes : List ℕ) (change : Spliced) (left : List ℕ) : Type 0 where
+  pub passes : check s words len ≡ pass
+  pub forward : from ≤ to
+  pub inside : to ≤ length (payloadOf s words len)
+  pub room : wordsFor s (length (spliced (payloadOf s words len) from to bytes)) ≤ length words
+  pub length-is : wordsFor s (length (spliced (payloadOf s words len) from to bytes)) ≡ change .length
+  pub left-is : rewritten s words len (spliced (payloadOf s words len) from to bytes) ≡ left
+
+pub known : (s : Shape) (words : List ℕ) (len from to : ℕ) (bytes : List ℕ) (change : Spliced) (left : List ℕ)
+    → splice s words len from to bytes ≡ (gives change, left) → Known s words len from to bytes change left
+unfolding splice
+known s words len from to bytes change left e =
+    let old = payloadOf s words len in
+    let new = spliced old from to bytes in
+    let w =
+    writes-given
+    (check s words len
+    ▷ guard (ltb to from || ltb (length old) to) 13 0
+    ▷ guard (ltb len (wordsFor s (length old))) 19 0
+    ▷ guard (ltb (length words) (wordsFor s (length new))) 14 0)
+    words (rewritten s words len new) (record { length = wordsFor s (length new); growth = growthBy from to (length bytes) }) e
+    in
+    let last = guard (ltb (length words) (wordsFor s (length new))) 14 0 in
+    let spread = guard (ltb len (wordsFor s (length old))) 19 0 in
+    let outside = guard (ltb to from || ltb (length old) to) 13 0 in
+    let a = pass-both (check s words len) (outside ▷ spread ▷ last) (w .0) in
+    let b = pass-both outside (spread ▷ last) (a .1) in
+    let c = pass-both spread last (b .1) in
+    let range = guard-passed (ltb to from || ltb (length old) to) 13 0 (b .0) in
+    record {
+      passes = a .0;
+      forward = ltb-false to from (or-left (ltb to from) (ltb (length old) to) range);
+      inside = ltb-false (length old) to (or-right (ltb to from) (ltb (length old) to) range);
+      room = ltb-false (length words) (wordsFor s (length new)) (guard-passed (ltb (length words) (wordsFor s (length new))) 14 0 (c .1));
+      length-is = ap (λ (x : Spliced). x .length) (w .1);
+      left-is = w .2;
+    }
+
+-- a message packed: the fewest-packet form of its own payload
+pub record Packing (s : Shape) (words : List ℕ) (len new : ℕ) (left : List ℕ) : Type 0 where
+  pub passes : check s words len ≡ pass
+  pub room : wordsFor s (length (payloadOf s words len)) ≤ length words
+  pub length-is : wordsFor s (length (payloadOf s words len)) ≡ new
+  pub left-is : rewritten s words len (payloadOf s words len) ≡ left
+
+pub packed : (s : Shape) (words : List ℕ) (len new : ℕ) (left : List ℕ) → repack s words len ≡ (gives new, left) → Packing s words len new left
+unfolding repack
+packed s words len new left e =
+    let needed : ℕ = wordsFor s (length (payloadOf s words len)) in
+    let spread = guard (ltb len needed) 19 0 in
+    let last = guard (ltb (length words) needed) 14 0 in
+    let w = writes-given (check s words len ▷ spread ▷ last) words (rewritten s words len (payloadOf s words len)) needed e in
+    let a = pass-both (check s words len) (spread ▷ last) (w .0) in
+    let b = pass-both spread last (a .1) in
+    record {
+      passes = a .0;
+      room = ltb-false (length words) needed (guard-passed (ltb (length words) needed) 14 0 (b .1));
+      length-is = w .1;
+      left-is = w .2;
+    }

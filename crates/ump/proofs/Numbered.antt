@@ -1,0 +1,101 @@
+-- No refusal has the number 0: a struct with 0 says "accepted". Assumes nothing.
+use mathlib.Core.Bool.{Bool, true, false, cond, not, _||_}
+use mathlib.Core.List.{List}
+use Prim.Native.Nat.{ℕ, suc, _*_, _%_, _/_, _<_}
+use lib.Dec.{eqb, ltb, lit<}
+use lib.ListN.{length}
+use Rattle.refusal.specs.Answer.{Answer, gives, refused, Verdict, _▷_, guard, writes}
+use Rattle.ump.specs.Packet.{Shape}
+use Rattle.ump.specs.Packing.{wordsFor}
+use Rattle.ump.specs.Check.{first, sweep, statusNumber, badType, badStatus, badCount, badGroup, badId, checkPackets, check, payloadOf}
+use Rattle.ump.specs.Splice.{spliced, splice, repack}
+use Rattle.ump.specs.Edits.{Edit, badEdit, moveEdit, replaced, editsOf, patchesOf, badList, someOverlap, allChecks, spliceAll}
+use Rattle.ump.specs.Origin.{origin}
+
+pub data Numbered {A : Type 0} : Answer A → Type 0 where
+  accepted : {value : A} → Numbered (gives value)
+  numbered : {number place : ℕ} → 0 < number → Numbered (refused number place)
+
+by-guard : (b : Bool) (number place : ℕ) → 0 < number → Numbered (guard b number place)
+by-guard true number place h = numbered h
+by-guard false number place h = accepted
+
+both : {A : Type 0} (v : Verdict) (answer : Answer A) → Numbered v → Numbered answer → Numbered (v ▷ answer)
+both (gives u) answer h k = k
+both (refused number place) answer (numbered h) k = numbered h
+
+by-writes : {A : Type 0} (v : Verdict) (before after : List ℕ) (value : A) → Numbered v → Numbered (writes v before value after .0)
+by-writes (gives u) before after value h = accepted
+by-writes (refused number place) before after value (numbered h) = numbered h
+
+status-numbered : (n p : ℕ) → 0 < statusNumber n p
+unfolding statusNumber
+status-numbered n p = go (eqb n 1) (eqb p 0) (eqb (suc p) n)
+  where
+    go : (a b c : Bool) → 0 < cond a 6 (cond b 7 (cond c 9 8))
+    go true b c = lit< tt
+    go false true c = lit< tt
+    go false false true = lit< tt
+    go false false false = lit< tt
+
+by-sweep : (s : Shape) (number : ℕ → ℕ) (bad : ℕ → Bool) (n : ℕ) → ((p : ℕ) → 0 < number p) → Numbered (sweep s number bad n)
+by-sweep s number bad n h = by-guard (ltb (first bad n) n) (number (first bad n)) (s .words * first bad n) (h (first bad n))
+
+packets-numbered : (s : Shape) (words : List ℕ) (n : ℕ) → Numbered (checkPackets s words n)
+unfolding checkPackets
+packets-numbered s words n =
+    both _ _ (by-sweep s (λ p. 5) (badType s words) n (λ p. lit< tt))
+    (both _ _ (by-sweep s (statusNumber n) (badStatus s words n) n (status-numbered n))
+    (both _ _ (by-sweep s (λ p. 10) (badCount s words) n (λ p. lit< tt))
+    (both _ _ (by-sweep s (λ p. 11) (badGroup s words) n (λ p. lit< tt)) (by-sweep s (λ p. 12) (badId s words) n (λ p. lit< tt)))))
+
+check-numbered : (s : Shape) (words : List ℕ) (len : ℕ) → Numbered (check s words len)
+unfolding check
+check-numbered s words len =
+    both _ _ (by-guard (ltb 16384 (length words)) 1 0 (lit< tt))
+    (both _ _ (by-guard (ltb (length words) len) 2 0 (lit< tt))
+    (both _ _ (by-guard (ltb len (s .words)) 3 0 (lit< tt))
+    (both _ _ (by-guard (not (eqb (len % s .words) 0)) 4 0 (lit< tt)) (packets-numbered s words (len / s .words)))))
+
+checks-numbered : (s : Shape) (words : List ℕ) (len : ℕ) (numbers bytes : List ℕ) → Numbered (allChecks s words len numbers bytes)
+checks-numbered s words len numbers bytes =
+    let old : List ℕ = payloadOf s words len in
+    let new : List ℕ = replaced old (patchesOf (editsOf numbers) bytes) in
+    both _ _ (check-numbered s words len)
+    (both _ _ (by-guard (badList (length old) (length bytes) numbers) 13 0 (lit< tt))
+    (both _ _ (by-guard (someOverlap 0 (editsOf numbers)) 20 0 (lit< tt)) (by-guard (ltb (length words) (wordsFor s (length new))) 14 0 (lit< tt))))
+
+module _ (s : Shape) (words : List ℕ) (len : ℕ) where
+  abbrev old : List ℕ
+  old = payloadOf s words len
+
+  spread : Numbered (guard (ltb len (wordsFor s (length old))) 19 0)
+  spread = by-guard (ltb len (wordsFor s (length old))) 19 0 (lit< tt)
+
+  pub repack-numbered : Numbered (repack s words len .0)
+  unfolding repack
+  repack-numbered =
+      by-writes _ words _ _ (both _ _ (check-numbered s words len) (both _ _ spread (by-guard (ltb (length words) (wordsFor s (length old))) 14 0 (lit< tt))))
+
+  pub splice-numbered : (from to : ℕ) (bytes : List ℕ) → Numbered (splice s words len from to bytes .0)
+  unfolding splice
+  splice-numbered from to bytes =
+      by-writes _ words _ _
+      (both _ _ (check-numbered s words len)
+      (both _ _ (by-guard (ltb to from || ltb (length old) to) 13 0 (lit< tt))
+      (both _ _ spread (by-guard (ltb (length words) (wordsFor s (length (spliced old from to bytes)))) 14 0 (lit< tt)))))
+
+  pub all-numbered : (numbers bytes : List ℕ) → Numbered (spliceAll s words len numbers bytes .0)
+  unfolding spliceAll
+  all-numbered numbers bytes = by-writes _ words _ _ (checks-numbered s words len numbers bytes)
+
+  pub origin-numbered : (numbers bytes : List ℕ) (q : ℕ) → Numbered (origin s words len numbers bytes q)
+  unfolding origin
+  origin-numbered numbers bytes q =
+      both _ _ (checks-numbered s words len numbers bytes) (both _ _ (by-guard (not (ltb q (4 * length words))) 13 0 (lit< tt)) accepted)
+
+pub move-numbered : (done pending : Edit) (done-first : Bool) → Numbered (moveEdit done pending done-first)
+unfolding moveEdit
+move-numbered done pending done-first =
+    both _ _ (by-guard (badEdit done || badEdit pending) 13 0 (lit< tt))
+    (both _ _ (by-guard (cond done-first (ltb (pending .from) (done .to)) (ltb (done .from) (pending .to))) 20 0 (lit< tt)) accepted)

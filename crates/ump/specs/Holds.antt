@@ -1,0 +1,23 @@
+-- A message in words that are lent: what it carries, and that it is the fewest-packet form.
+-- Assumes nothing.
+use mathlib.Core.Path.{_≡_}
+use mathlib.Core.List.{List}
+use Prim.Native.Nat.{ℕ}
+use lib.ListN.{length, take}
+use Rattle.ump.specs.Packet.{Shape, groupAt, idAt}
+use Rattle.ump.specs.Packing.{wordsFor, pack}
+use Rattle.ump.specs.Check.{Valid, payloadOf}
+
+-- the first len of the words lent hold a valid message of this group and id that carries these bytes
+pub record Holds (shape : Shape) (group : ℕ) (id bytes : List ℕ) (lent : ℕ) (words : List ℕ) (len : ℕ) : Type 0 where
+  pub valid : Valid shape words len
+  pub group-is : groupAt shape words 0 ≡ group
+  pub id-is : idAt shape words 0 ≡ id
+  pub carries : payloadOf shape words len ≡ bytes
+  pub buffer : length words ≡ lent
+
+-- and it is the fewest-packet form of these bytes
+pub record Fewest (shape : Shape) (group : ℕ) (id bytes : List ℕ) (lent : ℕ) (words : List ℕ) (len : ℕ) : Type 0 where
+  pub length-is : len ≡ wordsFor shape (length bytes)
+  pub packed : take len words ≡ pack shape group id bytes
+  pub holds : Holds shape group id bytes lent words len

@@ -6,6 +6,7 @@ pub mod Passes
 pub mod Again
 pub mod Turns
 pub mod Whole
+pub mod Walking
 pub mod Once
 pub mod Unique
 pub mod ShutOut

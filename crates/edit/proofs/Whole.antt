@@ -14,7 +14,7 @@ use Rattle.ump.specs.Packet.{sysex8, groupAt, idAt}
 use Rattle.ump.specs.Packing.{wordsFor}
 use Rattle.ump.specs.Check.{check, payloadOf, Valid}
 use Rattle.ump.specs.Splice.{rewritten, repack}
-use Rattle.ump.specs.Edits.{replaced, perEdit, editsFrom, editsOf, patchesOf, badList, someOverlap, spliceAll}
+use Rattle.ump.specs.Edits.{replaced, perEdit, editsFrom, editsOf, patchesOf, badList, someOverlap, allChecks, spliceAll}
 use Rattle.ump.specs.Holds.{Holds}
 use Rattle.ump.proofs.Checks.{passes-valid}
 use Rattle.ump.proofs.Message.{no-spread}
@@ -102,33 +102,44 @@ module _ (words : List ℕ) (len : ℕ) (numbers bytes : List ℕ) where
   abbrev new : List ℕ
   new = replaced old (patchesOf (editsOf numbers) bytes)
 
+  pub checks-refused : {n q : ℕ} → check sysex8 words len ≡ refused n q → allChecks sysex8 words len numbers bytes ≡ refused n q
+  checks-refused e = rw e
+
   pub all-refused : {n q : ℕ} → check sysex8 words len ≡ refused n q → (refused n q, words) ≡ spliceAll sysex8 words len numbers bytes
   unfolding spliceAll
   all-refused e = rw e
 
   module _ (ok : check sysex8 words len ≡ pass) where
+    pub checks-listed : {n q : ℕ} → listed (length old) (length bytes) numbers ≡ refused n q → allChecks sysex8 words len numbers bytes ≡ refused n q
+    unfolding listed
+    checks-listed e =
+        rw ok
+        (guards-refused (badList (length old) (length bytes) numbers) (someOverlap 0 (editsOf numbers)) (sizeAfter (length old) (editsOf numbers))
+        (guard (ltb (length words) (wordsFor sysex8 (length new))) 14 0) e)
+
     pub all-listed : {n q : ℕ} → listed (length old) (length bytes) numbers ≡ refused n q → (refused n q, words) ≡ spliceAll sysex8 words len numbers bytes
-    unfolding spliceAll listed
-    all-listed e =
-        rw (
-          ok,
-          guards-refused (badList (length old) (length bytes) numbers) (someOverlap 0 (editsOf numbers)) (sizeAfter (length old) (editsOf numbers))
-              (guard (ltb (length words) (wordsFor sysex8 (length new))) 14 0) e,
-        )
+    unfolding spliceAll
+    all-listed e = rw (checks-listed e)
 
     module _ {size : ℕ} (l : listed (length old) (length bytes) numbers ≡ gives size) where
       none : (badList (length old) (length bytes) numbers ≡ false) × (someOverlap 0 (editsOf numbers) ≡ false)
       unfolding listed
       none = guards-given (badList (length old) (length bytes) numbers) (someOverlap 0 (editsOf numbers)) (sizeAfter (length old) (editsOf numbers)) l
 
-      sized : length new ≡ size
-      sized = listing old numbers bytes l .sized
+      pub new-sized : length new ≡ size
+      new-sized = listing old numbers bytes l .sized
+
+      pub checks-room : length words < wordsFor sysex8 size → allChecks sysex8 words len numbers bytes ≡ refused 14 0
+      checks-room h = rw (ok, none .0, none .1, new-sized, lt-ltb (length words) (wordsFor sysex8 size) h)
+
+      pub checks-pass : wordsFor sysex8 size ≤ length words → allChecks sysex8 words len numbers bytes ≡ pass
+      checks-pass h = rw (ok, none .0, none .1, new-sized, le-ltb (length words) (wordsFor sysex8 size) h)
 
       pub all-room : length words < wordsFor sysex8 size → (refused 14 0, words) ≡ spliceAll sysex8 words len numbers bytes
       unfolding spliceAll
-      all-room h = rw (ok, none .0, none .1, sized, lt-ltb (length words) (wordsFor sysex8 size) h)
+      all-room h = rw (checks-room h)
 
       pub all-done : wordsFor sysex8 size ≤ length words → {n : ℕ} {g : ℤ} {after : List ℕ} → n ≡ wordsFor sysex8 size → g ≡ pos size -ℤ pos (length old)
           → after ≡ rewritten sysex8 words len new → (gives (record { length = n; growth = g }), after) ≡ spliceAll sysex8 words len numbers bytes
       unfolding spliceAll
-      all-done h en eg el = rw (ok, none .0, none .1, en, eg, el, sized, le-ltb (length words) (wordsFor sysex8 size) h)
+      all-done h en eg el = rw (checks-pass h, en, eg, el, new-sized)

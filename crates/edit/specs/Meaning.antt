@@ -5,6 +5,7 @@ use lib.IntN.{ℤ}
 use Rattle.refusal.specs.Answer.{Answer, gives}
 use Rattle.refusal.specs.Meaning.{faultOf}
 use Rattle.ump.specs.Edits as ump
+use Rattle.ump.specs.Origin.{Origin, headerOctet, carried, dumpByte, editByte, filler, zeroed, untouched}
 use Rattle.edit.specs.declared.Edit.{Edit}
 use Rattle.edit.specs.declared.Range.{Range}
 use Rattle.edit.specs.declared.Grown.{Grown}
@@ -13,6 +14,8 @@ use Rattle.edit.specs.declared.Moved.{Moved}
 use Rattle.edit.specs.declared.Moved.the-variants as moved
 use Rattle.edit.specs.declared.listed.Listed.{Listed}
 use Rattle.edit.specs.declared.listed.Listed.the-variants as listed
+use Rattle.edit.specs.declared.origins.OctetOrigin.{OctetOrigin}
+use Rattle.edit.specs.declared.origins.OctetOrigin.the-variants as origin
 
 abbrev pub editMeaning : Edit → ump.Edit
 editMeaning edit = record { from = edit .from; to = edit .to; length = edit .length }
@@ -31,3 +34,12 @@ movedMeaning (moved.Refused fault) = faultOf fault
 abbrev pub listedMeaning : Listed → Answer ℕ
 listedMeaning (listed.Size size) = gives size
 listedMeaning (listed.Refused fault) = faultOf fault
+
+abbrev pub originMeaning : OctetOrigin → Answer Origin
+originMeaning (origin.Header place) = gives (headerOctet (place .packet) (place .octet))
+originMeaning (origin.Dump byte) = gives (carried (dumpByte byte))
+originMeaning (origin.Edit place) = gives (carried (editByte (place .edit) (place .byte)))
+originMeaning origin.Filler = gives filler
+originMeaning origin.Zeroed = gives zeroed
+originMeaning origin.Untouched = gives untouched
+originMeaning (origin.Refused fault) = faultOf fault

@@ -1,4 +1,4 @@
-// Edits of a payload: growth, moving a pending edit past a done one, and all edits of a list at once.
+// Edits of a payload: growth, moving a pending edit past a done one, all edits of a list at once, and where an octet then comes from.
 ghost use mathlib.Core.Path.{_≡_};
 ghost use Prim.Native.Nat.{_≤_};
 ghost use Rattle.ump.specs.Edits.{growth, badEdit, movedPast, moveEdit};
@@ -9,8 +9,13 @@ use refusal::Refusal;
 
 mod all;
 mod listed;
+mod origins;
 
 pub use all::splice_all;
+pub use origins::EditByte;
+pub use origins::HeaderOctet;
+pub use origins::OctetOrigin;
+pub use origins::origin;
 
 // An edit is from, to and replacement length.
 pub struct Edit {

@@ -5,11 +5,14 @@ use Rattle.refusal.specs.Answer.{Answer, gives, refused}
 use Rattle.refusal.proofs.Laws.{faultBack, fault-back}
 use Rattle.refusal.proofs.Tight.{once}
 use Rattle.ump.specs.Edits as ump
-use Rattle.edit.specs.Meaning.{grownMeaning, movedMeaning}
+use Rattle.ump.specs.Origin.{Origin, headerOctet, carried, dumpByte, editByte, filler, zeroed, untouched}
+use Rattle.edit.specs.Meaning.{grownMeaning, movedMeaning, originMeaning}
 use Rattle.edit.specs.declared.Grown.{Grown}
 use Rattle.edit.specs.declared.Grown.the-variants as grown
 use Rattle.edit.specs.declared.Moved.{Moved}
 use Rattle.edit.specs.declared.Moved.the-variants as moved
+use Rattle.edit.specs.declared.origins.OctetOrigin.{OctetOrigin}
+use Rattle.edit.specs.declared.origins.OctetOrigin.the-variants as origin
 
 abbrev grownBack : Answer ℤ → Grown
 grownBack (gives growth) = grown.By growth
@@ -32,3 +35,24 @@ moved-back (moved.Refused fault) = ap moved.Refused (fault-back fault)
 
 pub moved-once : (x y : Moved) → movedMeaning x ≡ movedMeaning y → x ≡ y
 moved-once = once movedMeaning movedBack moved-back
+
+abbrev originBack : Answer Origin → OctetOrigin
+originBack (gives (headerOctet packet octet)) = origin.Header (record { packet = packet; octet = octet })
+originBack (gives (carried (dumpByte byte))) = origin.Dump byte
+originBack (gives (carried (editByte edit byte))) = origin.Edit (record { edit = edit; byte = byte })
+originBack (gives filler) = origin.Filler
+originBack (gives zeroed) = origin.Zeroed
+originBack (gives untouched) = origin.Untouched
+originBack (refused number place) = origin.Refused (faultBack number place)
+
+origin-back : (x : OctetOrigin) → originBack (originMeaning x) ≡ x
+origin-back (origin.Header place) = refl
+origin-back (origin.Dump byte) = refl
+origin-back (origin.Edit place) = refl
+origin-back origin.Filler = refl
+origin-back origin.Zeroed = refl
+origin-back origin.Untouched = refl
+origin-back (origin.Refused fault) = ap origin.Refused (fault-back fault)
+
+pub origin-once : (x y : OctetOrigin) → originMeaning x ≡ originMeaning y → x ≡ y
+origin-once = once originMeaning originBack origin-back

@@ -1,6 +1,6 @@
 -- Wrong answers that the promises shut out, each on a concrete input. Assumes nothing.
 use mathlib.Core.Path.{_≡_, ap}
-use mathlib.Core.Bool.{true, false, not}
+use mathlib.Core.Bool.{true, false, not, cond}
 use mathlib.Core.List.{List, [], _∷_, _++_}
 use Prim.Native.Nat.{ℕ, _+_, _*_}
 use lib.Dec.{T, eqb}
@@ -9,7 +9,7 @@ use lib.ListN.{getD, replicate}
 use contract.Lifetimes.{Lfts}
 use denote.Triple.Clauses.{AtExit}
 use borrow.Fn.Kinds.{Dens, resT, endedOf}
-use Rattle.refusal.specs.Answer.{Answer}
+use Rattle.refusal.specs.Answer.{Answer, gives}
 use Rattle.refusal.proofs.Laws.{never-both, never-refused}
 use Rattle.refusal.proofs.Tight as tight
 use Rattle.refusal.proofs.Tight.{Shuts, differ, told}
@@ -22,19 +22,26 @@ use Rattle.ump.specs.Packing.{statusFor, frame, packsAt, packs, packetsFor, pac
 use Rattle.ump.specs.Check.{first, badType, badStatus, badCount, badGroup, badId, statusNumber, checkPackets, check}
 use Rattle.ump.specs.Splice.{Spliced, stored, rewritten}
 use Rattle.ump.specs.Edits as ump
+use Rattle.ump.specs.Runs.{runFrom}
+use Rattle.ump.specs.Origin.{Origin, Source, dumpByte, editByte, headerOctet, carried, filler, zeroed, untouched, originOf, originIn, origin, isHeader}
 use Rattle.ump.specs.Samples.{message5}
 use Rattle.splice.specs.declared.sysex8.Spliced as answer
 use Rattle.splice.specs.declared.sysex8.Change.{Change}
 use Rattle.splice.proofs.ShutOut.{Refuses}
 use Rattle.edit.specs.Growth.{growthOf}
+use Rattle.edit.specs.Meaning.{originMeaning}
 use Rattle.edit.specs.declared.Edit.{Edit}
 use Rattle.edit.specs.declared.Range.{Range}
 use Rattle.edit.specs.declared.Grown.the-variants as grown
 use Rattle.edit.specs.declared.Moved.the-variants as moved
+use Rattle.edit.specs.declared.origins.OctetOrigin.{OctetOrigin}
+use Rattle.edit.specs.declared.origins.OctetOrigin.the-variants as comes
 use Rattle.edit.proofs.growth.Reads as growth
 use Rattle.edit.proofs.move_edit.Reads as move
 use Rattle.edit.proofs.all.splice_all.Kinds as all-kinds
 use Rattle.edit.proofs.all.splice_all.Reads as all
+use Rattle.edit.proofs.origins.origin.Kinds as origin-kinds
+use Rattle.edit.proofs.origins.origin.Reads as asked
 
 abbrev signed : ℤ → ℕ
 signed (pos n) = 2 * n
@@ -197,3 +204,68 @@ all-middle κs a x s w p = never-refused (ap (λ (o : Answer Spliced × List ℕ
 all-late : AllShut thirteen 4 (0 ∷ 0 ∷ 2 ∷ 12 ∷ 13 ∷ 0 ∷ []) bytes8 (leaves (0x500D0001 ∷ 0x02030405 ∷ 0x06070809 ∷ 0x0A0B0C00 ∷ []))
 unfolding ump.spliceAll ump.editsFrom ump.replaced rewritten stored check checkPackets badType badStatus badCount badGroup badId statusNumber first payload payloadAt sizeOf octets pack packs packsAt packetsFor statusFor frame joined wordsOf
 all-late κs a x s w p = differ (word 0) tt (rw (w .0 .0, w .0 .1, w .0 .2, w .0 .3, w .1) at p)
+
+-- ---- where an octet comes from
+
+-- no such answer to a question for octet q, of P8's edits of P5's message in these words
+abbrev AskedShut : List ℕ → ℕ → (OctetOrigin → Type 0) → Type 0
+AskedShut words q wrong =
+    tight.ShutOut 3 origin-kinds.ps origin-kinds.r asked.Post
+    (λ κs a x s. (a .0 .now ≡ words) × (a .1 .0 ≡ 12) × (a .1 .1 .0 .now ≡ numbers8) × (a .1 .1 .1 .0 .now ≡ bytes8) × (a .1 .1 .1 .1 .0 ≡ q) × wrong x)
+
+abbrev kind : Origin → ℕ
+kind (headerOctet p j) = 10 * (100 * p + j)
+kind (carried (dumpByte i)) = 10 * i + 1
+kind (carried (editByte k j)) = 10 * (100 * k + j) + 2
+kind filler = 3
+kind zeroed = 4
+kind untouched = 5
+
+abbrev from-edit : ℕ → ℕ → OctetOrigin
+from-edit edit byte = comes.Edit (record { edit = edit; byte = byte })
+
+-- an answer that refuses, one that does not, and one by which the octet is carried
+record NotGiven (x : OctetOrigin) : Type 0 where
+  fault : Fault
+  is : x ≡ comes.Refused fault
+
+record Given (x : OctetOrigin) : Type 0 where
+  from : Origin
+  is : originMeaning x ≡ gives from
+
+record Carried (x : OctetOrigin) : Type 0 where
+  source : Source
+  is : originMeaning x ≡ gives (carried source)
+
+-- P5's message with four words more lent
+abbrev more : List ℕ
+more = message5 ++ replicate 4 9
+
+-- A byte of a replacement said to be the one of the dump that it replaces (replaced), or the first of its replacement (first); a
+-- byte of the dump by where it stands in the message (unmoved); the stream id carried (id); an unused octet said to be zeroed
+-- (filler); an octet behind the new message, where the old one stood, untouched (behind), and one behind both zeroed (beyond); one
+-- that is not lent answered (past); a question refused that has an answer (refused).
+record OriginShutOut : Type 0 where
+  origin-replaced : AskedShut message5 3 (λ x. x ≡ comes.Dump 0)
+  origin-first : AskedShut message5 4 (λ x. x ≡ from-edit 0 0)
+  origin-unmoved : AskedShut message5 5 (λ x. x ≡ comes.Dump 2)
+  origin-id : AskedShut message5 2 Carried
+  origin-filler : AskedShut message5 6 (λ x. x ≡ comes.Zeroed)
+  origin-behind : AskedShut message5 16 (λ x. x ≡ comes.Untouched)
+  origin-beyond : AskedShut more 48 (λ x. x ≡ comes.Zeroed)
+  origin-past : AskedShut message5 48 Given
+  origin-refused : AskedShut message5 5 NotGiven
+
+origin-shut-out : OriginShutOut
+unfolding origin originIn originOf runFrom ump.editsFrom ump.replaced check checkPackets badType badStatus badCount badGroup badId statusNumber first payload payloadAt sizeOf octets packetsFor statusFor joined
+origin-shut-out = record {
+  origin-replaced = λ κs a x s w p. wrong kind tt (rw (w .0, w .1, w .2, w .3, w .4, w .5) at p);
+  origin-first = λ κs a x s w p. wrong kind tt (rw (w .0, w .1, w .2, w .3, w .4, w .5) at p);
+  origin-unmoved = λ κs a x s w p. wrong kind tt (rw (w .0, w .1, w .2, w .3, w .4, w .5) at p);
+  origin-id = λ κs a x s w p. wrong (λ o. cond (isHeader o) 1 0) tt (rw (w .0, w .1, w .2, w .3, w .4, w .5 .is) at p);
+  origin-filler = λ κs a x s w p. wrong kind tt (rw (w .0, w .1, w .2, w .3, w .4, w .5) at p);
+  origin-behind = λ κs a x s w p. wrong kind tt (rw (w .0, w .1, w .2, w .3, w .4, w .5) at p);
+  origin-beyond = λ κs a x s w p. wrong kind tt (rw (w .0, w .1, w .2, w .3, w .4, w .5) at p);
+  origin-past = λ κs a x s w p. never-both (rw (w .0, w .1, w .2, w .3, w .4, w .5 .is) at p);
+  origin-refused = λ κs a x s w p. never-refused (rw (w .0, w .1, w .2, w .3, w .4, w .5 .is) at p);
+}

@@ -3,13 +3,15 @@ use mathlib.Core.Path.{sym, _∙_}
 use Rattle.refusal.proofs.Tight.{FixesResult, FixesOutcome, both-fixed}
 use Rattle.splice.specs.Meaning.{splicedMeaning}
 use Rattle.splice.proofs.Unique.{spliced-once}
-use Rattle.edit.proofs.Once.{grown-once, moved-once}
+use Rattle.edit.proofs.Once.{grown-once, moved-once, origin-once}
 use Rattle.edit.proofs.growth.Kinds as growth-kinds
 use Rattle.edit.proofs.growth.Reads as growth
 use Rattle.edit.proofs.move_edit.Kinds as move-kinds
 use Rattle.edit.proofs.move_edit.Reads as move
 use Rattle.edit.proofs.all.splice_all.Kinds as all-kinds
 use Rattle.edit.proofs.all.splice_all.Reads as all
+use Rattle.edit.proofs.origins.origin.Kinds as origin-kinds
+use Rattle.edit.proofs.origins.origin.Reads as origin
 
 growth-unique : FixesResult 0 growth-kinds.ps growth-kinds.r growth.Post
 growth-unique κs a x y s t p q = grown-once x y (p ∙ sym q)
@@ -19,3 +21,6 @@ move-unique κs a x y s t p q = moved-once x y (p ∙ sym q)
 
 all-unique : FixesOutcome 3 all-kinds.ps all-kinds.r all.Post (λ κs s. s .0 .now)
 all-unique κs a x y s t p q = both-fixed splicedMeaning spliced-once p q
+
+origin-unique : FixesResult 3 origin-kinds.ps origin-kinds.r origin.Post
+origin-unique κs a x y s t p q = origin-once x y (p ∙ sym q)

@@ -2,10 +2,10 @@
 -- promise of the wrapped call, of which an exported call answers the struct. Assumes nothing.
 use mathlib.Core.Path.{_≡_}
 use mathlib.Core.Bool.{true, false, cond}
-use mathlib.Core.List.{List, [], _∷_}
+use mathlib.Core.List.{List, [], _∷_, _++_}
 use Prim.Native.Nat.{ℕ, _+_, _*_}
 use lib.IntN.{ℤ, pos, negsuc}
-use lib.ListN.{getD}
+use lib.ListN.{getD, replicate}
 use Rattle.refusal.proofs.Tight.{ShutOut, Shuts, differ}
 use Rattle.ump.specs.Word.{getField, octets, wordsOf}
 use Rattle.ump.specs.Packet.{sizeOf, payloadAt, joined, payload}
@@ -13,9 +13,11 @@ use Rattle.ump.specs.Packing.{statusFor, frame, packsAt, packs, packetsFor, pac
 use Rattle.ump.specs.Single.{readPacket8, blank}
 use Rattle.ump.specs.Check.{first, badType, badStatus, badCount, badGroup, badId, statusNumber, checkPackets, check, checked}
 use Rattle.ump.specs.Splice.{stored, rewritten, splice}
-use Rattle.ump.specs.Edits.{moveEdit}
+use Rattle.ump.specs.Edits.{moveEdit, editsFrom, replaced}
+use Rattle.ump.specs.Runs.{runFrom}
+use Rattle.ump.specs.Origin.{originOf, originIn, origin}
 use Rattle.ump.specs.Reader.{row, walk, places, unread, nth, reader}
-use Rattle.ump.specs.Samples.{alone, message2}
+use Rattle.ump.specs.Samples.{alone, message2, bytes6}
 use Rattle.edit.specs.Growth.{growthOf}
 use Rattle.latchbeacon.specs.declared.answers.NumberAnswer.{NumberAnswer}
 use Rattle.latchbeacon.specs.declared.answers.PacketAnswer.{PacketAnswer}
@@ -23,6 +25,7 @@ use Rattle.latchbeacon.specs.declared.answers.MessageAnswer.{MessageAnsw
 use Rattle.latchbeacon.specs.declared.answers.ChangeAnswer.{ChangeAnswer}
 use Rattle.latchbeacon.specs.declared.answers.GrowthAnswer.{GrowthAnswer}
 use Rattle.latchbeacon.specs.declared.answers.RangeAnswer.{RangeAnswer}
+use Rattle.latchbeacon.specs.declared.answers.OriginAnswer.{OriginAnswer}
 use Rattle.latchbeacon.specs.declared.answers.CursorAnswer.{CursorAnswer}
 use Rattle.latchbeacon.specs.declared.answers.ReadAnswer.{ReadAnswer}
 use Rattle.latchbeacon.proofs.fields.latchbeacon_bit.Reads as bit
@@ -32,6 +35,8 @@ use Rattle.latchbeacon.proofs.messages.latchbeacon_sysex8_check.Kinds a
 use Rattle.latchbeacon.proofs.messages.latchbeacon_sysex8_check.Reads as check-promise
 use Rattle.latchbeacon.proofs.splices.latchbeacon_sysex8_splice.Kinds as splice-kinds
 use Rattle.latchbeacon.proofs.splices.latchbeacon_sysex8_splice.Reads as splice-promise
+use Rattle.latchbeacon.proofs.splices.latchbeacon_sysex8_origin.Kinds as origin-kinds
+use Rattle.latchbeacon.proofs.splices.latchbeacon_sysex8_origin.Reads as origin-promise
 use Rattle.latchbeacon.proofs.edits.latchbeacon_growth.Reads as growth
 use Rattle.latchbeacon.proofs.edits.latchbeacon_move_edit.Reads as move
 use Rattle.latchbeacon.proofs.cursors.latchbeacon_sysex8_open.Kinds as open-kinds
@@ -123,6 +128,25 @@ range-unmoved κs s p = differ (λ (r : RangeAnswer). r .from) tt p
 range-overlap : Shuts move.Post (0, (3, (2, (2, (3, (0, (true, tt))))))) (record { refusal = 20; place = 0; from = 2; to = 3 })
 unfolding moveEdit
 range-overlap κs s p = differ (λ (r : RangeAnswer). r .from) tt p
+
+-- ---- where an octet comes from: P6's message, whose octet 19 is the last byte put in, and octet 20 byte 1 of the dump
+
+-- a question for octet q of P2's message with 10..1C put in at 1, in eight words, answered so
+abbrev OriginShut : ℕ → OriginAnswer → Type 0
+OriginShut q answer =
+    ShutOut 3 origin-kinds.ps origin-kinds.r origin-promise.Post
+    (λ κs a x s. (a .0 .now ≡ message2 ++ replicate 4 9) × (a .1 .0 ≡ 4) × (a .1 .1 .0 .now ≡ 1 ∷ 1 ∷ 13 ∷ []) × (a .1 .1 .1 .0 .now ≡ bytes6)
+    × (a .1 .1 .1 .1 .0 ≡ q) × (x ≡ answer))
+
+-- a byte of the edit has its place in the replacement and not in the packet
+origin-place : OriginShut 19 (record { refusal = 0; place = 0; kind = 2; number = 0; index = 0 })
+unfolding origin originIn originOf runFrom editsFrom replaced check checkPackets badType badStatus badCount badGroup badId statusNumber first statusFor payload payloadAt sizeOf octets joined packetsFor
+origin-place κs a x s w p = differ (λ (r : OriginAnswer). r .index) tt (rw (w .0, w .1, w .2, w .3, w .4, w .5) at p)
+
+-- a byte of the dump has no number
+origin-number : OriginShut 20 (record { refusal = 0; place = 0; kind = 1; number = 1; index = 1 })
+unfolding origin originIn originOf runFrom editsFrom replaced check checkPackets badType badStatus badCount badGroup badId statusNumber first statusFor payload payloadAt sizeOf octets joined packetsFor
+origin-number κs a x s w p = differ (λ (r : OriginAnswer). r .number) tt (rw (w .0, w .1, w .2, w .3, w .4, w .5) at p)
 
 -- ---- a cursor, and what it reads: P2's message
 

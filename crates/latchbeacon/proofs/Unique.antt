@@ -61,6 +61,8 @@ use Rattle.latchbeacon.proofs.splices.latchbeacon_sysex8_set_payload.Ki
 use Rattle.latchbeacon.proofs.splices.latchbeacon_sysex8_set_payload.Reads as sysex8-set-payload
 use Rattle.latchbeacon.proofs.splices.latchbeacon_sysex8_splice_all.Kinds as sysex8-splice-all-kinds
 use Rattle.latchbeacon.proofs.splices.latchbeacon_sysex8_splice_all.Reads as sysex8-splice-all
+use Rattle.latchbeacon.proofs.splices.latchbeacon_sysex8_origin.Kinds as sysex8-origin-kinds
+use Rattle.latchbeacon.proofs.splices.latchbeacon_sysex8_origin.Reads as sysex8-origin
 use Rattle.latchbeacon.proofs.edits.latchbeacon_growth.Kinds as growth-kinds
 use Rattle.latchbeacon.proofs.edits.latchbeacon_growth.Reads as growth
 use Rattle.latchbeacon.proofs.edits.latchbeacon_move_edit.Kinds as move-edit-kinds
@@ -165,6 +167,9 @@ sysex8-set-payload-unique κs a x y s t p q = both-fixed (λ r. r) (λ r r′ e.
 
 sysex8-splice-all-unique : FixesOutcome 3 sysex8-splice-all-kinds.ps sysex8-splice-all-kinds.r sysex8-splice-all.Post (λ κs s. s .0 .now)
 sysex8-splice-all-unique κs a x y s t p q = both-fixed (λ r. r) (λ r r′ e. e) p q
+
+sysex8-origin-unique : FixesResult 3 sysex8-origin-kinds.ps sysex8-origin-kinds.r sysex8-origin.Post
+sysex8-origin-unique κs a x y s t p q = p ∙ sym q
 
 growth-unique : FixesResult 0 growth-kinds.ps growth-kinds.r growth.Post
 growth-unique κs a x y s t p q = p ∙ sym q

@@ -11,6 +11,7 @@ use Rattle.ump.specs.Single as single
 use Rattle.ump.specs.Check.{Summary}
 use Rattle.ump.specs.Splice.{Spliced}
 use Rattle.ump.specs.Edits.{Range}
+use Rattle.ump.specs.Origin.{Origin, headerOctet, carried, dumpByte, editByte, filler, zeroed, untouched}
 use Rattle.ump.specs.Reader as paper
 use Rattle.latchbeacon.specs.declared.answers.NumberAnswer.{NumberAnswer}
 use Rattle.latchbeacon.specs.declared.answers.PacketAnswer.{PacketAnswer}
@@ -18,6 +19,7 @@ use Rattle.latchbeacon.specs.declared.answers.MessageAnswer.{MessageAnsw
 use Rattle.latchbeacon.specs.declared.answers.ChangeAnswer.{ChangeAnswer}
 use Rattle.latchbeacon.specs.declared.answers.GrowthAnswer.{GrowthAnswer}
 use Rattle.latchbeacon.specs.declared.answers.RangeAnswer.{RangeAnswer}
+use Rattle.latchbeacon.specs.declared.answers.OriginAnswer.{OriginAnswer}
 use Rattle.latchbeacon.specs.declared.answers.CursorAnswer.{CursorAnswer}
 use Rattle.latchbeacon.specs.declared.answers.ReadAnswer.{ReadAnswer}
 
@@ -67,6 +69,19 @@ growthAnswer (refused number place) = record { refusal = number; place = place; 
 abbrev pub rangeAnswer : Answer Range → RangeAnswer
 rangeAnswer (gives range) = record { refusal = 0; place = 0; from = range .from; to = range .to }
 rangeAnswer (refused number place) = record { refusal = number; place = place; from = 0; to = 0 }
+
+-- the kind of an origin, and its numbers
+abbrev pub comes : ℕ → ℕ → ℕ → OriginAnswer
+comes kind number index = record { refusal = 0; place = 0; kind = kind; number = number; index = index }
+
+abbrev pub originAnswer : Answer Origin → OriginAnswer
+originAnswer (gives (headerOctet packet octet)) = comes 0 packet octet
+originAnswer (gives (carried (dumpByte byte))) = comes 1 0 byte
+originAnswer (gives (carried (editByte edit byte))) = comes 2 edit byte
+originAnswer (gives filler) = comes 3 0 0
+originAnswer (gives zeroed) = comes 4 0 0
+originAnswer (gives untouched) = comes 5 0 0
+originAnswer (refused number place) = record { refusal = number; place = place; kind = 0; number = 0; index = 0 }
 
 abbrev pub cursorAnswer : Answer paper.Cursor → CursorAnswer
 cursorAnswer (gives cursor) =

@@ -5,15 +5,16 @@ ghost use Rattle.bit_ops.specs.Meaning.{bitMeaning, wordMeaning, setMeaning};
 ghost use Rattle.packet.specs.Meaning.{kindMeaning, packetMeaning8, packetMeaning7};
 ghost use Rattle.message.specs.Meaning.{checkMeaning8, checkMeaning7, copiedMeaning};
 ghost use Rattle.splice.specs.Meaning.{repackedMeaning, splicedMeaning};
-ghost use Rattle.edit.specs.Meaning.{grownMeaning, movedMeaning};
+ghost use Rattle.edit.specs.Meaning.{grownMeaning, movedMeaning, originMeaning};
 ghost use Rattle.reader.specs.Meaning.{openMeaning, readMeaning};
 ghost use Rattle.stream.specs.Meaning.{writtenMeaning};
-ghost use Rattle.latchbeacon.specs.Answers.{numberAnswer, doneAnswer, kindCode, packetAnswer, messageAnswer, changeAnswer, growthAnswer, rangeAnswer, cursorAnswer, readAnswer};
+ghost use Rattle.latchbeacon.specs.Answers.{numberAnswer, doneAnswer, kindCode, packetAnswer, messageAnswer, changeAnswer, growthAnswer, rangeAnswer, originAnswer, cursorAnswer, readAnswer};
 use bit_ops::BitRead;
 use bit_ops::FieldSet;
 use bit_ops::WordRead;
 use edit::Grown;
 use edit::Moved;
+use edit::OctetOrigin;
 use message::sysex8::Copied;
 use packet::Earlier;
 use packet::Kind;
@@ -82,6 +83,17 @@ pub struct RangeAnswer {
     pub place: usize,
     pub from: usize,
     pub to: usize,
+}
+
+// Where an octet comes from: kind 0 a header, of packet `number` octet `index`; 1 byte `index` of the dump; 2 of edit `number` byte
+// `index`; 3 filler; 4 zeroed; 5 untouched; `number` and `index` are 0 where they say nothing.
+#[repr(C)]
+pub struct OriginAnswer {
+    pub refusal: u8,
+    pub place: usize,
+    pub kind: u8,
+    pub number: usize,
+    pub index: usize,
 }
 
 // Where a reader of a payload stands: packet, byte, and how many bytes are to be read.
@@ -389,6 +401,43 @@ pub(crate) fn range(answer: Moved) -> RangeAnswer
                 place: fault.place,
                 from: 0,
                 to: 0,
+            }
+        }
+    }
+}
+
+// An octet that comes from there.
+fn comes(kind: u8, number: usize, index: usize) -> OriginAnswer
+    ensures { λ r. ⌜ r ≡ record { refusal = 0; place = 0; kind = kind; number = number; index = index } ⌝ }
+{
+    OriginAnswer {
+        refusal: 0,
+        place: 0,
+        kind,
+        number,
+        index,
+    }
+}
+
+// The answer of where an octet comes from.
+pub(crate) fn origin(answer: OctetOrigin) -> OriginAnswer
+    ensures { λ r. ⌜ r ≡ originAnswer (originMeaning answer) ⌝ }
+{
+    match answer {
+        OctetOrigin::Header(header) => comes(0, header.packet, header.octet),
+        OctetOrigin::Dump(byte) => comes(1, 0, byte),
+        OctetOrigin::Edit(edit) => comes(2, edit.edit, edit.byte),
+        OctetOrigin::Filler => comes(3, 0, 0),
+        OctetOrigin::Zeroed => comes(4, 0, 0),
+        OctetOrigin::Untouched => comes(5, 0, 0),
+        OctetOrigin::Refused(fault) => {
+            let refusal = fault.refusal;
+            OriginAnswer {
+                refusal: refusal::number(refusal),
+                place: fault.place,
+                kind: 0,
+                number: 0,
+                index: 0,
             }
         }
     }

@@ -1,12 +1,14 @@
-// The exported calls that write a message in fewest-packet form.
+// The exported calls that write a message in fewest-packet form, and where an octet of it comes from.
 ghost use mathlib.Core.Path.{_≡_};
 ghost use Rattle.ump.specs.Packet.{sysex8};
 ghost use Rattle.ump.specs.Packing.{wordsFor};
 ghost use Rattle.ump.specs.Splice.{repack, splice, setPayload};
 ghost use Rattle.ump.specs.Edits.{spliceAll};
-ghost use Rattle.latchbeacon.specs.Answers.{numberAnswer, changeAnswer, leaving};
+ghost use Rattle.ump.specs.Origin.{origin};
+ghost use Rattle.latchbeacon.specs.Answers.{numberAnswer, changeAnswer, originAnswer, leaving};
 use crate::answers::ChangeAnswer;
 use crate::answers::NumberAnswer;
+use crate::answers::OriginAnswer;
 
 // The words that the fewest-packet form of a payload of `size` bytes takes.
 #[no_mangle]
@@ -62,4 +64,19 @@ pub extern "C" fn latchbeacon_sysex8_splice_all(
     ensures { λ r. ⌜ (r, now (words .exit)) ≡ leaving changeAnswer (spliceAll sysex8 (now (words .entry)) length (now (numbers .entry)) (now (bytes .entry))) ⌝ }
 {
     crate::answers::change(edit::splice_all(words, length, numbers, bytes))
+}
+
+// Where octet `octet` of the words lent comes from, if all edits of a list are done so; refused as that is, then Range for an octet
+// that is not lent. Nothing is written.
+#[no_mangle]
+pub extern "C" fn latchbeacon_sysex8_origin(
+    words: &[u32],
+    length: usize,
+    numbers: &[usize],
+    bytes: &[u8],
+    octet: usize,
+) -> OriginAnswer
+    ensures { λ r. ⌜ r ≡ originAnswer (origin sysex8 (now (words .entry)) length (now (numbers .entry)) (now (bytes .entry)) octet) ⌝ }
+{
+    crate::answers::origin(edit::origin(words, length, numbers, bytes, octet))
 }

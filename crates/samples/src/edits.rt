@@ -5,7 +5,7 @@ use edit::Moved;
 use splice::sysex8::Spliced;
 
 // P5's message.
-const MESSAGE: [u32; 12] = [
+pub(crate) const MESSAGE: [u32; 12] = [
     0x5113_05A0u32,
     0xA100_0000,
     0,

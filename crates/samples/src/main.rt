@@ -5,6 +5,7 @@ mod compare;
 mod edits;
 mod listings;
 mod messages;
+mod origins;
 mod packets;
 mod packings;
 mod streams;
@@ -17,6 +18,19 @@ fn report(name: &[u8], right: bool) {
     } else {
         io::write_all(STDOUT_FILENO, b" WRONG\n");
     }
+}
+
+// Where an octet comes from.
+fn report_origins() {
+    report(b"origins, P6", origins::p6());
+    report(b"origins, P7", origins::p7());
+    report(b"origins, P8", origins::p8());
+    report(b"origins, P9", origins::p9());
+    report(b"origins, P8 with words behind", origins::behind());
+    report(b"origins, refused edits", origins::edits());
+    report(b"origins, refused lengths", origins::lengths());
+    report(b"origins, refused messages", origins::messages());
+    report(b"origins, 16,385 words", origins::long());
 }
 
 fn main() {
@@ -44,4 +58,5 @@ fn main() {
     report(b"sx8list, P5", listings::p5());
     report(b"sx8list, P4, first five words", listings::five_words());
     report(b"sx8list, a packet of another type", listings::foreign());
+    report_origins();
 }

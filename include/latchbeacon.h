@@ -44,7 +44,7 @@ enum latchbeacon_refusal {
     LATCHBEACON_GROUP = 11,    /* differs from the first packet */
     LATCHBEACON_STREAM = 12,   /* SysEx8 id differs from the first */
     LATCHBEACON_RANGE = 13,    /* from above to, or to above the payload size; byte index not below it; a number within an edit above
-                                  53,248 */
+                                  53,248; octet index not below 4 times the words lent */
     LATCHBEACON_ROOM = 14,     /* words needed exceed words lent for output (payload out: bytes) */
     LATCHBEACON_STATUS = 15,   /* single packet, status over 3 */
     LATCHBEACON_FIELD = 16,    /* field index, or value for a field, too big */
@@ -62,6 +62,16 @@ enum latchbeacon_kind {
     LATCHBEACON_KIND_END = 3,
     LATCHBEACON_KIND_UNEXPECTED_END_VALID = 4,   /* unexpected end, earlier data valid */
     LATCHBEACON_KIND_UNEXPECTED_END_INVALID = 5  /* unexpected end, earlier data invalid */
+};
+
+/* Where an octet of the words lent comes from once all edits of a list are done. */
+enum latchbeacon_origin_kind {
+    LATCHBEACON_ORIGIN_HEADER = 0,    /* the header of a packet of the new message */
+    LATCHBEACON_ORIGIN_DUMP = 1,      /* a byte of the old payload */
+    LATCHBEACON_ORIGIN_EDIT = 2,      /* a byte of an edit's replacement */
+    LATCHBEACON_ORIGIN_FILLER = 3,    /* an unused octet of the last packet; it is zero */
+    LATCHBEACON_ORIGIN_ZEROED = 4,    /* behind the new message, where the old one stood; it is zero */
+    LATCHBEACON_ORIGIN_UNTOUCHED = 5  /* behind both; it is what it was */
 };
 
 /* A number: a byte, a field, a word with a field set, a size in bytes, a length in words; 0 where a call only stores. */
@@ -113,6 +123,17 @@ typedef struct {
     size_t from;
     size_t to;
 } latchbeacon_range;
+
+/* The origin of an octet: its kind (enum latchbeacon_origin_kind) and two numbers. Of a header: `number` is the packet, `index` the
+ * octet of its header (0: type and group, 1: status and count, 2: stream id). Of the dump: `number` is 0, `index` the byte of the old
+ * payload. Of an edit: `number` is the edit, `index` the byte of its replacement. Else both are 0. */
+typedef struct {
+    uint8_t refusal;
+    size_t place;
+    uint8_t kind;
+    size_t number;
+    size_t index;
+} latchbeacon_origin;
 
 /* Where a reader of a payload stands: packet, byte within it, and how many bytes are to be read. */
 typedef struct {
@@ -223,6 +244,14 @@ latchbeacon_change latchbeacon_sysex8_set_payload(uint32_t *words, size_t words_
  * say), 20, 14. */
 latchbeacon_change latchbeacon_sysex8_splice_all(uint32_t *words, size_t words_lent, size_t length, const size_t *numbers,
                                                  size_t numbers_lent, const uint8_t *bytes, size_t bytes_lent);
+
+/* Answers where an octet of the words lent comes from once latchbeacon_sysex8_splice_all is done. All is lent as to that call, and as
+ * it is before it; nothing is written. Octet 4w + b is octet b of word w. Splices of the same edits in any order, each moved by
+ * latchbeacon_move_edit, make the same message, so the answer is the same for every octet of it; behind it the answer is what
+ * latchbeacon_sysex8_splice_all leaves. Refusals: those of latchbeacon_sysex8_splice_all, then 13 (octet not below 4 times the words
+ * lent). */
+latchbeacon_origin latchbeacon_sysex8_origin(const uint32_t *words, size_t words_lent, size_t length, const size_t *numbers,
+                                             size_t numbers_lent, const uint8_t *bytes, size_t bytes_lent, size_t octet);
 
 /* ---- edits: from, to and replacement length ---------------------------------------------------------------------------------- */
 

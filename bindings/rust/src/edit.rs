@@ -7,7 +7,7 @@ use std::ops::Range;
 /// An edit of a payload: the bytes `from..to` are replaced by `length` bytes.
 ///
 /// It has no bytes of its own. A list of edits and their bytes is what
-/// [`Message::splice_edits`](crate::Message::splice_edits) takes.
+/// [`Message::splice_edits`](crate::Message::splice_edits) and [`Message::origin`](crate::Message::origin) take.
 ///
 /// ```
 /// use latchbeacon::Edit;

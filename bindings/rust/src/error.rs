@@ -40,7 +40,8 @@ pub enum Refusal {
     Group,
     /// 12: the SysEx8 stream id differs from the first packet's.
     Stream,
-    /// 13: from above to, or to above the payload size; byte index not below it; a number within an edit above 53,248.
+    /// 13: from above to, or to above the payload size; byte index not below it; a number within an edit above 53,248; octet index
+    /// not below 4 times the words lent.
     Range,
     /// 14: words needed exceed words lent for output (payload out: bytes).
     Room,
@@ -77,7 +78,8 @@ const TABLE: [(Refusal, &str, &str); 20] = [
     (
         Refusal::Range,
         "Range",
-        "from above to, or to above the payload size; byte index not below it; a number within an edit above 53,248",
+        "from above to, or to above the payload size; byte index not below it; a number within an edit above 53,248; octet index \
+         not below 4 times the words lent",
     ),
     (Refusal::Room, "Room", "words needed exceed words lent for output (payload out: bytes)"),
     (Refusal::Status, "Status", "single packet, status over 3"),

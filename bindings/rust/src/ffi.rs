@@ -60,6 +60,15 @@ pub(crate) struct Range {
 }
 
 #[repr(C)]
+pub(crate) struct Origin {
+    refusal: u8,
+    place: usize,
+    pub(crate) kind: u8,
+    pub(crate) number: usize,
+    pub(crate) index: usize,
+}
+
+#[repr(C)]
 struct Cursor {
     refusal: u8,
     place: usize,
@@ -112,6 +121,8 @@ extern "C" {
                                       bytes_lent: usize) -> Change;
     fn latchbeacon_sysex8_splice_all(words: *mut u32, words_lent: usize, length: usize, numbers: *const usize,
                                      numbers_lent: usize, bytes: *const u8, bytes_lent: usize) -> Change;
+    fn latchbeacon_sysex8_origin(words: *const u32, words_lent: usize, length: usize, numbers: *const usize,
+                                 numbers_lent: usize, bytes: *const u8, bytes_lent: usize, octet: usize) -> Origin;
     fn latchbeacon_growth(from: usize, to: usize, length: usize) -> EditGrowth;
     fn latchbeacon_move_edit(done_from: usize, done_to: usize, done_length: usize, pending_from: usize,
                              pending_to: usize, pending_length: usize, done_first: bool) -> Range;
@@ -150,7 +161,7 @@ macro_rules! answers {
     };
 }
 
-answers!(Number, Packet, Message, Change, EditGrowth, Range, Cursor);
+answers!(Number, Packet, Message, Change, EditGrowth, Range, Origin, Cursor);
 
 // The value of an answer of one number, as the type that it fits: the library's answer is never too big for it.
 #[inline]
@@ -308,6 +319,16 @@ pub(crate) fn sysex8_splice_all(words: &mut [u32], length: usize, edits: &[Edit]
     // between (`repr(C)`), so that there are three times as many numbers as edits; `words` is a slice that is lent to this call
     // alone, so it overlaps neither.
     unsafe { latchbeacon_sysex8_splice_all(address, lent, length, numbers, numbers_lent, bytes.as_ptr(), bytes.len()) }.accepted()
+}
+
+// Where an octet of the words comes from once all edits of a list are done.
+pub(crate) fn sysex8_origin(words: &[u32], length: usize, edits: &[Edit], bytes: &[u8], octet: usize) -> Result<Origin, Error> {
+    let (address, lent) = (words.as_ptr(), words.len());
+    let (numbers, numbers_lent) = (edits.as_ptr().cast::<usize>(), edits.len() * 3);
+    // SAFETY: `words`, `bytes` and `edits` are slices, and an edit is three numbers of `usize` in the order from, to, length, with
+    // nothing between (`repr(C)`), so that there are three times as many numbers as edits. The call only reads.
+    unsafe { latchbeacon_sysex8_origin(address, lent, length, numbers, numbers_lent, bytes.as_ptr(), bytes.len(), octet) }
+        .accepted()
 }
 
 // ---- edits

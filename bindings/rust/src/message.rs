@@ -3,6 +3,7 @@
 use crate::edit::Edit;
 use crate::error::Error;
 use crate::ffi;
+use crate::origin::Origin;
 use crate::payload::Payload;
 use std::fmt;
 use std::ops::{Bound, Range, RangeBounds};
@@ -106,6 +107,27 @@ impl<'a> View<'a> {
     /// [`Room`](crate::Refusal::Room) if `bytes` is shorter than the payload.
     pub fn copy_payload(&self, bytes: &mut [u8]) -> Result<usize, Error> {
         ffi::sysex8_payload(self.words, self.words.len(), bytes)
+    }
+
+    /// Where an octet of the words comes from once all edits of a list are done, as [`Message::origin`]. The words lent are those
+    /// of the message alone.
+    ///
+    /// # Errors
+    ///
+    /// Those of [`Message::origin`]; [`Room`](crate::Refusal::Room) if the result takes more words than the message has.
+    ///
+    /// ```
+    /// use latchbeacon::{Origin, Refusal, View};
+    ///
+    /// let words = [0x5203_0741, 0x4200_0000, 0, 0];
+    /// let view = View::check(&words, 4)?;
+    /// assert_eq!(view.origin(&[], &[], 2), Ok(Origin::Header { packet: 0, octet: 2 }));
+    /// assert_eq!(view.origin(&[], &[], 5), Ok(Origin::Filler));
+    /// assert_eq!(view.origin(&[], &[], 16).unwrap_err().refusal, Refusal::Range);
+    /// # Ok::<(), latchbeacon::Error>(())
+    /// ```
+    pub fn origin(&self, edits: &[Edit], bytes: &[u8], octet: usize) -> Result<Origin, Error> {
+        ffi::sysex8_origin(self.words, self.words.len(), edits, bytes, octet).map(Origin::of_answer)
     }
 }
 
@@ -274,6 +296,52 @@ impl<'a> Message<'a> {
     /// ```
     pub fn copy_payload(&self, bytes: &mut [u8]) -> Result<usize, Error> {
         self.view().copy_payload(bytes)
+    }
+
+    /// Where an octet of the buffer comes from once all edits of a list are done by [`splice_edits`](Message::splice_edits).
+    ///
+    /// Edits and bytes are those of that call, and it is asked before it; nothing is changed. Octet 4w + b is octet b of word w of
+    /// [`buffer`](Message::buffer), 0 the most significant. Two workers that do the edits one after the other, each in its own
+    /// order and with [`move_edit`](crate::move_edit), end with the same message, so the answer holds for every octet of it. Behind
+    /// it the answer is what `splice_edits` leaves.
+    ///
+    /// # Errors
+    ///
+    /// Those of [`splice_edits`](Message::splice_edits), then [`Range`](crate::Refusal::Range) if `octet` is not below 4 times the
+    /// words of the buffer.
+    ///
+    /// A whole bank by origin:
+    ///
+    /// ```
+    /// use latchbeacon::{Edit, Error, Message, Origin};
+    ///
+    /// // Payload A0 A1 A2 in three packets, and two words behind it.
+    /// let mut buffer = [0x5113_05A0, 0xA100_0000, 0, 0, 0x5121_0500, 0, 0, 0, 0x5132_05A2, 0, 0, 0, 7, 7];
+    /// let mut message = Message::check(&mut buffer, 12)?;
+    /// let (edits, bytes) = ([Edit::new(0..1, 2), Edit::new(2..3, 0)], [0xB0, 0xB1]);
+    ///
+    /// let origins = (0..56).map(|octet| message.origin(&edits, &bytes, octet)).collect::<Result<Vec<Origin>, Error>>()?;
+    /// assert_eq!(
+    ///     origins[..6],
+    ///     [
+    ///         Origin::Header { packet: 0, octet: 0 },
+    ///         Origin::Header { packet: 0, octet: 1 },
+    ///         Origin::Header { packet: 0, octet: 2 },
+    ///         Origin::Edit { edit: 0, byte: 0 },
+    ///         Origin::Edit { edit: 0, byte: 1 },
+    ///         Origin::Dump { byte: 1 },
+    ///     ]
+    /// );
+    /// assert_eq!(origins[6..16], [Origin::Filler; 10]);
+    /// assert_eq!(origins[16..48], [Origin::Zeroed; 32]);
+    /// assert_eq!(origins[48..], [Origin::Untouched; 8]);
+    ///
+    /// message.splice_edits(&edits, &bytes)?;
+    /// assert_eq!(message.buffer(), [0x5104_05B0, 0xB1A1_0000, 0, 0, 0, 0, 0, 0, 0, 0, 0, 0, 7, 7]);
+    /// # Ok::<(), latchbeacon::Error>(())
+    /// ```
+    pub fn origin(&self, edits: &[Edit], bytes: &[u8], octet: usize) -> Result<Origin, Error> {
+        ffi::sysex8_origin(self.words, self.summary.words, edits, bytes, octet).map(Origin::of_answer)
     }
 
     /// Sets the group of every packet. Every other bit stays.

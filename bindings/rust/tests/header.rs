@@ -8,6 +8,7 @@ use std::slice::Iter;
 const HEADER: &str = include_str!("../../../include/latchbeacon.h");
 const BINDINGS: &str = include_str!("../src/ffi.rs");
 const KINDS: &str = include_str!("../src/packet.rs");
+const ORIGINS: &str = include_str!("../src/origin.rs");
 
 // A function or a struct: `fn name(a: u32) -> Answer` or `struct Name { a: u32 }`, in Rust's words.
 type Declarations = Vec<String>;
@@ -277,7 +278,7 @@ fn differences(header: &str, bindings: &str) -> Vec<String> {
 // The declarations are the header's.
 #[test]
 fn declarations_are_those_of_the_header() {
-    assert_eq!(read_bindings(BINDINGS).len(), 45, "37 functions and 8 structs");
+    assert_eq!(read_bindings(BINDINGS).len(), 47, "38 functions and 9 structs");
     let differences = differences(HEADER, BINDINGS);
     assert!(differences.is_empty(), "the bindings differ from include/latchbeacon.h:\n{}", differences.join("\n"));
 }
@@ -308,6 +309,19 @@ fn kinds_are_those_of_the_header() {
     assert_eq!(header, bindings);
 }
 
+// The kinds of origins are taken by the header's numbers and names, and there are no others; the last is taken without its number.
+#[test]
+fn origins_are_those_of_the_header() {
+    let header = read_header(HEADER, "latchbeacon_origin_kind").1;
+    let tokens = rust_tokens(ORIGINS);
+    let arms = tokens.windows(7).filter(|arm| arm[1..6] == ["=", ">", "Origin", ":", ":"]);
+    let bindings: Vec<(String, String)> =
+        arms.map(|arm| (format!("LATCHBEACON_ORIGIN_{}", upper(&arm[6])), arm[0].clone())).collect();
+    let mut wanted: Vec<(String, String)> = header.into_iter().map(|(name, number)| (name, number.to_string())).collect();
+    wanted.last_mut().expect("kinds of origins").1 = "_".into();
+    assert_eq!(wanted, bindings);
+}
+
 // A type, a name, an order, a missing and an extra declaration, a missing layout: each of these changes fails the comparison.
 #[test]
 fn a_change_of_a_declaration_is_seen() {
@@ -319,6 +333,8 @@ fn a_change_of_a_declaration_is_seen() {
         ("fn latchbeacon_growth", "fn latchbeacon_more(word: u32) -> usize;\n    fn latchbeacon_growth"),
         ("fn latchbeacon_sysex8_payload(words: *const u32", "fn latchbeacon_sysex8_payload(words: *mut u32"),
         ("numbers: *const usize", "numbers: *const u32"),
+        ("bytes_lent: usize, octet: usize) -> Origin;", "octet: usize, bytes_lent: usize) -> Origin;"),
+        ("    pub(crate) number: usize,", "    pub(crate) number: u8,"),
         ("pending_length: usize, done_first: bool) -> Range;", "pending_length: usize, done_first: bool) -> EditGrowth;"),
         ("bytes: *mut u8, bytes_lent: usize) -> Number", "bytes: *mut u8) -> Number"),
         ("    pub(crate) from: usize,\n    pub(crate) to: usize,", "    pub(crate) to: usize,\n    pub(crate) from: usize,"),

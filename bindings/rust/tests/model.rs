@@ -3,7 +3,7 @@
 mod common;
 
 use common::Numbers;
-use latchbeacon::{fields, sysex8, Cursor, Message, Payload, View};
+use latchbeacon::{fields, sysex8, Cursor, Edit, Message, Origin, Payload, Refusal, View};
 
 // Holds every reader of a message to its payload.
 fn assert_reads(message: &Message, payload: &[u8], numbers: &mut Numbers) {
@@ -98,6 +98,80 @@ fn lists_at_once() {
             payload.splice(edit.range(), bytes);
         }
         assert_reads(&message, &payload, &mut numbers);
+    }
+}
+
+// The origins of all octets of a buffer: the bytes of the dump and of the edits as tags, spliced as a vector and then framed.
+fn tags(size: usize, edits: &[Edit], old_words: usize, words_lent: usize) -> Vec<Origin> {
+    let mut payload: Vec<Origin> = (0..size).map(|byte| Origin::Dump { byte }).collect();
+    for (edit, done) in edits.iter().enumerate().rev() {
+        payload.splice(done.range(), (0..done.length).map(|byte| Origin::Edit { edit, byte }));
+    }
+    payload.resize(payload.len().div_ceil(13).max(1) * 13, Origin::Filler);
+    let mut octets = Vec::new();
+    for (packet, bytes) in payload.chunks(13).enumerate() {
+        octets.extend((0..3).map(|octet| Origin::Header { packet, octet }));
+        octets.extend(bytes);
+    }
+    octets.resize(octets.len().max(4 * old_words), Origin::Zeroed);
+    octets.resize(4 * words_lent, Origin::Untouched);
+    octets
+}
+
+// The octets of words, the most significant first.
+fn octets(words: &[u32]) -> Vec<u8> {
+    words.iter().flat_map(|word| word.to_be_bytes()).collect()
+}
+
+// The status of a packet of so many: complete, start, end, continue.
+fn status(packet: usize, packets: usize) -> u8 {
+    match packet {
+        _ if packets == 1 => 0,
+        0 => 1,
+        _ if packet + 1 == packets => 3,
+        _ => 2,
+    }
+}
+
+// Holds the octets that a list of edits left to their origins: each is the byte of the dump or of the edit, the header's, zero, or
+// what it was.
+fn assert_octets(message: &Message, origins: &[Origin], payload: &[u8], list: &[(Edit, Vec<u8>)], before: &[u8]) {
+    let after = octets(message.buffer());
+    let (packets, head) = (message.length() / 4, [0x50 | message.group(), 0, message.stream_id()]);
+    for (place, (octet, origin)) in after.iter().zip(origins).enumerate() {
+        let wanted = match *origin {
+            Origin::Header { packet, octet: 1 } => {
+                status(packet, packets) << 4 | (message.size() - 13 * packet).min(13) as u8 + 1
+            }
+            Origin::Header { octet, .. } => head[octet],
+            Origin::Dump { byte } => payload[byte],
+            Origin::Edit { edit, byte } => list[edit].1[byte],
+            Origin::Filler | Origin::Zeroed => 0,
+            Origin::Untouched => before[place],
+        };
+        assert_eq!((place, *octet), (place, wanted));
+    }
+}
+
+// The origin of every octet of many messages and lists, held to tags, and to what the edits then leave.
+#[test]
+fn origins_are_tags() {
+    let mut numbers = Numbers::of_seed(11);
+    for _ in 0..400 {
+        let (mut buffer, payload) = numbers.message(6);
+        let length = buffer.len();
+        let list = numbers.edits(6, payload.len());
+        let edits: Vec<Edit> = list.iter().map(|(edit, _)| *edit).collect();
+        let bytes: Vec<u8> = list.iter().flat_map(|(_, bytes)| bytes.clone()).collect();
+        let needed = sysex8::words_needed(payload.len() + bytes.len());
+        buffer.resize_with(needed.max(length) + 5, || numbers.below(1 << 32) as u32);
+        let (lent, before) = (buffer.len(), octets(&buffer));
+        let mut message = Message::check(&mut buffer, length).unwrap();
+        let origins: Vec<Origin> = (0..4 * lent).map(|octet| message.origin(&edits, &bytes, octet).unwrap()).collect();
+        assert_eq!(origins, tags(payload.len(), &edits, length, lent));
+        assert_eq!(message.origin(&edits, &bytes, 4 * lent).unwrap_err().refusal, Refusal::Range);
+        message.splice_edits(&edits, &bytes).unwrap();
+        assert_octets(&message, &origins, &payload, &list, &before);
     }
 }
 

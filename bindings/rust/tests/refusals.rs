@@ -1,6 +1,6 @@
 //! Every refusal that a call can give, with its number, name and place; and that nothing is changed by it.
 
-use latchbeacon::{bytes_to_sysex7, fields, move_edit, sysex7, sysex8, Edit, Error, Message, Refusal, View};
+use latchbeacon::{bytes_to_sysex7, fields, move_edit, sysex7, sysex8, Edit, Error, Message, Origin, Refusal, View};
 
 const START: u32 = 0x5011_0900;
 const CONTINUE: u32 = 0x5021_0900;
@@ -104,6 +104,33 @@ fn edits_are_refused() {
     assert_eq!(move_edit(edit, Edit::new(0..usize::MAX, 0), true).unwrap_err().refusal, Refusal::Range);
     assert_eq!(move_edit(edit, Edit::new(4..6, 0), true).unwrap_err().refusal, Refusal::Overlap);
     assert_eq!(move_edit(edit, Edit::new(0..3, 9), false), Ok(Edit::new(0..3, 9)));
+}
+
+// Origins: the list, its order, the room, the octet; each is asked with the next at fault too, so that the order shows.
+#[test]
+fn origins_are_refused() {
+    let words = [0x5203_0741, 0x4200_0000, 0, 0, 1];
+    let mut copy = words;
+    let message = Message::check(&mut copy, 4).unwrap();
+    let refused = |edits: &[Edit], count: usize, octet| {
+        let error = message.origin(edits, &vec![0; count], octet).unwrap_err();
+        assert_eq!(error.place, 0);
+        error.number()
+    };
+    let (first, second, long) = (Edit::new(0..1, 0), Edit::new(1..2, 0), Edit::new(0..0, 12));
+    assert_eq!(refused(&[second, Edit { from: 1, to: 0, length: 14 }], 14, 20), 13);
+    assert_eq!(refused(&[second, Edit::new(0..3, 14)], 14, 20), 13);
+    assert_eq!(refused(&[second, Edit::new(0..0, 53_249)], 53_249, 20), 13);
+    assert_eq!(refused(&[second, Edit::new(0..0, 14)], 13, 20), 13);
+    assert_eq!(refused(&[second, first, long], 12, 20), 20);
+    assert_eq!(refused(&[second, long], 12, 20), 20);
+    assert_eq!(refused(&[long], 12, 20), 14);
+    assert_eq!(refused(&[long], 12, 0), 14);
+    assert_eq!(refused(&[first, second], 0, 20), 13);
+    assert_eq!(refused(&[], 0, usize::MAX), 13);
+    assert_eq!(message.origin(&[first, second], &[], 19), Ok(Origin::Untouched));
+    assert_eq!(View::check(&words, 4).unwrap().origin(&[], &[], 16).unwrap_err().number(), 13);
+    assert_eq!(copy, words);
 }
 
 // Single packets and streams.

@@ -1,6 +1,6 @@
 //! The samples of docs/01-scope.md, P1 to P12 and those after them, through the bindings.
 
-use latchbeacon::{bytes_to_sysex7, move_edit, sysex7, sysex8, Edit, Error, Kind, Message, Refusal, Summary, View};
+use latchbeacon::{bytes_to_sysex7, move_edit, sysex7, sysex8, Edit, Error, Kind, Message, Origin, Refusal, Summary, View};
 
 const P2: [u32; 4] = [0x5203_0741, 0x4200_0000, 0, 0];
 const P4: [u32; 8] = [0x501E_0001, 0x0203_0405, 0x0607_0809, 0x0A0B_0C0D, 0x5031_0000, 0, 0, 0];
@@ -59,6 +59,35 @@ fn p6() {
     assert_eq!(message.summary(), View::check(&wanted, 8).unwrap().summary());
 }
 
+// The origins of all octets of a buffer, for the edits of a list.
+fn origins(words: &mut [u32], length: usize, edits: &[Edit], bytes: &[u8]) -> Vec<Origin> {
+    let octets = 4 * words.len();
+    let message = Message::check(words, length).unwrap();
+    assert_eq!(message.origin(edits, bytes, octets), refused(Refusal::Range, 0));
+    (0..octets).map(|octet| message.origin(edits, bytes, octet).unwrap()).collect()
+}
+
+// The origins of the header of a packet.
+fn header(packet: usize) -> [Origin; 3] {
+    [0, 1, 2].map(|octet| Origin::Header { packet, octet })
+}
+
+// P6, octet by octet: 41 and 12 of the bytes put in, the last of them and 42; then nine words lent.
+#[test]
+fn p6_by_origin() {
+    let mut words = [0; 9];
+    words[..4].copy_from_slice(&P2);
+    let found = origins(&mut words, 4, &[Edit::new(1..1, 13)], &BYTES);
+    let edit = |byte| Origin::Edit { edit: 0, byte };
+    assert_eq!(found[..3], header(0));
+    assert_eq!(found[3], Origin::Dump { byte: 0 });
+    assert_eq!(found[4..16], [0, 1, 2, 3, 4, 5, 6, 7, 8, 9, 10, 11].map(edit));
+    assert_eq!(found[16..19], header(1));
+    assert_eq!(found[19..21], [edit(12), Origin::Dump { byte: 1 }]);
+    assert_eq!(found[21..32], [Origin::Filler; 11]);
+    assert_eq!(found[32..], [Origin::Untouched; 4]);
+}
+
 // P7: the same with 7 words lent.
 #[test]
 fn p7() {
@@ -95,6 +124,26 @@ fn p8_p9() {
     }
     for words in both_orders([(Edit::new(1..1, 1), &[0xC0]), (Edit::new(1..1, 1), &[0xC1])]) {
         assert_eq!(words, [0x5106_05A0, 0xC0C1_A1A2, 0, 0]);
+    }
+}
+
+// P8 and P9, octet by octet: one packet is left of three, and one word stands behind them.
+#[test]
+fn p8_p9_by_origin() {
+    let mut words = [0xFFFF_FFFF; 13];
+    words[..12].copy_from_slice(&P5);
+    let (dump, edit) = (|byte| Origin::Dump { byte }, |edit, byte| Origin::Edit { edit, byte });
+    let p8 = origins(&mut words, 12, &[Edit::new(0..1, 2), Edit::new(2..3, 0)], &[0xB0, 0xB1]);
+    assert_eq!(p8[..3], header(0));
+    assert_eq!(p8[3..6], [edit(0, 0), edit(0, 1), dump(1)]);
+    assert_eq!(p8[6..16], [Origin::Filler; 10]);
+    let p9 = origins(&mut words, 12, &[Edit::new(1..1, 1), Edit::new(1..1, 1)], &[0xC0, 0xC1]);
+    assert_eq!(p9[..3], header(0));
+    assert_eq!(p9[3..8], [dump(0), edit(0, 0), edit(1, 0), dump(1), dump(2)]);
+    assert_eq!(p9[8..16], [Origin::Filler; 8]);
+    for behind in [&p8[16..], &p9[16..]] {
+        assert_eq!(behind[..32], [Origin::Zeroed; 32]);
+        assert_eq!(behind[32..], [Origin::Untouched; 4]);
     }
 }
 

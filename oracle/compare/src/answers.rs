@@ -62,10 +62,11 @@ pub enum Kind {
     PayloadLent,
     Stream,
     Needed,
+    Origin,
 }
 
 /// The kinds as rows of the table of counts.
-pub const KIND_NAMES: [&str; 22] = [
+pub const KIND_NAMES: [&str; 23] = [
     "word field, read",
     "word field, set",
     "single SysEx8 packet",
@@ -87,11 +88,12 @@ pub const KIND_NAMES: [&str; 22] = [
     "set payload, lent words",
     "byte stream (outside the port)",
     "words needed",
+    "origin of an octet, all edits (added)",
     "chained edits",
 ];
 
 /// The row of chained edits, which are of several kinds.
-pub const CHAINED: usize = 21;
+pub const CHAINED: usize = 22;
 
 impl Kind {
     /// The kind's row in the table of counts.
@@ -118,12 +120,13 @@ impl Kind {
             Kind::PayloadLent => 18,
             Kind::Stream => 19,
             Kind::Needed => 20,
+            Kind::Origin => 21,
         }
     }
 
     /// Whether the call works on a SysEx8 message: the first number is its length.
     pub fn on_message(self) -> bool {
-        matches!(self.row(), 8 | 10..=18)
+        matches!(self.row(), 8 | 10..=18 | 21)
     }
 
     /// Whether the call rewrites the message in fewest-packet form.
@@ -148,7 +151,8 @@ impl Kind {
 }
 
 /// One question. Numbers are: index (and value) of a field; the group of a packet; else the message's length
-/// first, then the call's own. Steps are letters in `bytes`, n or t, with a number each (0 for n).
+/// first, then the call's own; for an origin the octet, then three of each edit. Steps are letters in `bytes`, n or t,
+/// with a number each (0 for n).
 #[derive(Clone, PartialEq, Eq, Debug)]
 pub struct Input {
     pub kind: Kind,

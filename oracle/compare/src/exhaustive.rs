@@ -19,7 +19,10 @@ pub fn run(counts: &mut Counts) -> Result<(), String> {
     splices(counts)?;
     payloads(counts)?;
     streams(counts)?;
-    sizes(counts)
+    sizes(counts)?;
+    pairs_of_edits(counts)?;
+    edits_at_boundaries(counts)?;
+    faulty_edits(counts)
 }
 
 /// Payload bytes that tell their places apart.
@@ -375,6 +378,100 @@ fn sizes(counts: &mut Counts) -> Result<(), String> {
         .flat_map(|&most| (0..30).map(move |less| most - less));
     for size in (0..=500).chain(53_235..=53_262).chain(near_top) {
         compare(&Input::new(Kind::Needed, &[], &[size]), counts)?;
+    }
+    Ok(())
+}
+
+/// The origin of every octet lent, and of the two past them, for a list of edits.
+fn origins(words: &[u32], length: usize, edits: &[u64], counts: &mut Counts) -> Result<(), String> {
+    let size = edits.chunks_exact(3).map(|edit| edit[2] as usize).sum();
+    for octet in 0..4 * words.len() as u64 + 2 {
+        let numbers = [&[length as u64, octet], edits].concat();
+        compare(
+            &Input::with_bytes(Kind::Origin, words, &vec![0xEE; size], &numbers),
+            counts,
+        )?;
+    }
+    Ok(())
+}
+
+/// All edits of a payload of a size by replacements of these lengths.
+fn all_edits(size: u64, lengths: &[u64]) -> Vec<[u64; 3]> {
+    (0..=size)
+        .flat_map(|from| (from..=size).map(move |to| (from, to)))
+        .flat_map(|(from, to)| lengths.iter().map(move |&length| [from, to, length]))
+        .collect()
+}
+
+/// Every list of none, one and two edits, also out of order, of payloads of 0 to 4 bytes by 0, 1 and 2 bytes. The message
+/// has three packets, and a word that is not zero stands behind it.
+fn pairs_of_edits(counts: &mut Counts) -> Result<(), String> {
+    for size in 0..=4_usize {
+        let sizes = [size.min(1), 0, size - size.min(1)];
+        let mut words = SYSEX8.message(5, 0x66, &sizes, &numbered(size));
+        words.push(0x1234_5678);
+        let edits = all_edits(size as u64, &[0, 1, 2]);
+        origins(&words, 12, &[], counts)?;
+        for first in &edits {
+            origins(&words, 12, first, counts)?;
+            for second in &edits {
+                origins(&words, 12, &[&first[..], second].concat(), counts)?;
+            }
+        }
+    }
+    Ok(())
+}
+
+/// Every edit of payloads around a boundary by 0, 1, 2, 13 and 14 bytes, in words that are exactly full, and in one more.
+fn edits_at_boundaries(counts: &mut Counts) -> Result<(), String> {
+    for size in [0, 11, 12, 13, 14, 15, 25, 26, 27] {
+        let message = SYSEX8.fewest_form(6, 0x42, &numbered(size));
+        for edit in all_edits(size as u64, &[0, 1, 2, 13, 14]) {
+            let new = size + (edit[0] + edit[2]) as usize - edit[1] as usize;
+            let mut words = message.clone();
+            words.resize(message.len().max(4 * SYSEX8.fewest(new).len()), 0x0102_0304);
+            if edit[2] % 2 == 1 {
+                words.push(0x0506_0708);
+            }
+            origins(&words, message.len(), &edit, counts)?;
+        }
+    }
+    Ok(())
+}
+
+/// Lists that are refused, each with an octet that is lent and one that is not: numbers that are not whole edits, ranges
+/// reversed and past the payload, lengths that do not come to the bytes, numbers too big, no room, no message.
+fn faulty_edits(counts: &mut Counts) -> Result<(), String> {
+    let most = u64::MAX;
+    let lists: [&[u64]; 12] = [
+        &[0],
+        &[0, 1],
+        &[0, 1, 1, 1],
+        &[0, 1, 1, 2, 2],
+        &[1, 0, 1],
+        &[0, 3, 1],
+        &[3, 3, 1],
+        &[0, most, 1],
+        &[0, 0, 53_249],
+        &[0, 0, most, 0, 0, 2],
+        &[1, 2, 0, 0, 1, 14],
+        &[0, 2, 14],
+    ];
+    let message = SYSEX8.fewest_form(6, 0x42, &numbered(2));
+    for list in lists {
+        for (size, length) in [0, 1, 13, 14, 15, 53_249]
+            .into_iter()
+            .flat_map(|size| [0, 3, 4, 5, most].map(|length| (size, length)))
+        {
+            for octet in [0, 15, 16, most] {
+                let numbers = [&[length, octet], list].concat();
+                let bytes = vec![0xEE; size];
+                compare(
+                    &Input::with_bytes(Kind::Origin, &message, &bytes, &numbers),
+                    counts,
+                )?;
+            }
+        }
     }
     Ok(())
 }

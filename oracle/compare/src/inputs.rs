@@ -293,6 +293,59 @@ pub fn on_message(random: &mut Random, kind: Kind, damage: usize) -> Input {
     input
 }
 
+/// A list of up to `most` edits of a payload, as numbers, in ascending order; each ends no later than the next begins.
+pub fn edits(random: &mut Random, size: usize, most: usize) -> Vec<u64> {
+    let count = random.between(0, most);
+    let mut ends: Vec<usize> = (0..2 * count).map(|_| random.between(0, size)).collect();
+    ends.sort_unstable();
+    let mut numbers = Vec::new();
+    for pair in ends.chunks_exact(2) {
+        let to = random.pick(&[pair[0], pair[1]]);
+        let length = random.pick(&[0, 0, 1, 2, 5, 12, 13, 14, 27]);
+        numbers.extend([pair[0] as u64, to as u64, length]);
+    }
+    numbers
+}
+
+/// Spoils a list of edits in one place: a number changed, two edits the wrong way round, a number cut off or put behind.
+fn spoil(random: &mut Random, numbers: &mut Vec<u64>) {
+    let any = random.pick(&[0, 1, 53_248, 53_249, u64::MAX]);
+    match (random.below(4), numbers.len()) {
+        (0, count @ 1..) => numbers[random.below(count)] = any,
+        (1, 6..) => numbers.rotate_left(3),
+        (2, 1..) => drop(numbers.pop()),
+        _ => numbers.push(any),
+    }
+}
+
+/// A question about the origin of an octet: of any, of one around the ends of the messages, or of one that is not lent. Once
+/// in ten the list is spoiled, once in thirty the bytes are one too many, once in thirty the message is damaged.
+pub fn origin(random: &mut Random) -> Input {
+    let (mut words, length) = lent(random);
+    let old = size(&words[..length as usize]);
+    let mut list = edits(random, old, 6);
+    let inserted: u64 = list.chunks_exact(3).map(|edit| edit[2]).sum();
+    let removed: u64 = list.chunks_exact(3).map(|edit| edit[1] - edit[0]).sum();
+    let new = old + inserted as usize - removed as usize;
+    make_room(random, Kind::Origin, &mut words, length as usize, new);
+    let more = usize::from(random.once_in(30));
+    let bytes = random.bytes(inserted as usize + more);
+    if random.once_in(10) {
+        spoil(random, &mut list);
+    }
+    if random.once_in(30) {
+        words = damaged(random, &words);
+    }
+    let ends = [length as usize, words.len(), SYSEX8.fewest(new).len() * 4];
+    let octet = match random.below(8) {
+        0 => (4 * random.pick(&ends) + random.below(3)).saturating_sub(1),
+        1 => random.pick(&[usize::MAX, 16 * MOST_WORDS]),
+        _ => random.below(4 * words.len() + 1),
+    };
+    let numbers = [&[length, octet as u64], &list[..]].concat();
+    Input::with_bytes(Kind::Origin, &words, &bytes, &numbers)
+}
+
 /// A message whose packets have its id in octet 3 too, and that id set.
 pub fn own_id(random: &mut Random) -> Input {
     let mut words = message(random);

@@ -44,6 +44,9 @@ pub const SYSEX7: Shape = Shape {
 /// The most words that may be lent.
 pub const MOST_WORDS: usize = 16384;
 
+/// The most payload bytes that they hold, and the largest number within an edit.
+pub const MOST_BYTES: u64 = 53_248;
+
 /// Nibble `index` of a word, 0 is the most significant.
 pub fn nibble(word: u32, index: u32) -> u32 {
     word >> (28 - 4 * index) & 15

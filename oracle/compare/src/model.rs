@@ -19,6 +19,7 @@ pub fn answer(input: &Input) -> Ours {
         Kind::SetGroup | Kind::SetStreamId | Kind::SetByte => set_on_message(input),
         Kind::Stream => stream(input),
         Kind::Needed => Ours::values(vec![words_needed(input.numbers[0])]),
+        Kind::Origin => origin(input),
         _ => rewrite(input),
     }
 }
@@ -321,6 +322,114 @@ fn rewrite(input: &Input) -> Ours {
     words.resize(words.len().max(message.len()), 0);
     words.extend_from_slice(&input.words[words.len()..]);
     written(values, growth, words)
+}
+
+/// An edit: from, to and replacement length.
+type Edit = [u64; 3];
+
+/// Where an octet comes from: kind, number and index.
+type Origin = [u64; 3];
+
+/// The edits of a list for a payload of a size, with so many bytes; or the number of the refusal.
+fn edits_of(numbers: &[u64], size: u64, bytes: usize) -> Result<Vec<Edit>, u8> {
+    let edits: Vec<Edit> = numbers
+        .chunks_exact(3)
+        .map(|edit| [edit[0], edit[1], edit[2]])
+        .collect();
+    let bad = |&[from, to, length]: &Edit| from > to || to > size || length > MOST_BYTES;
+    let lengths = edits.iter().map(|edit| u128::from(edit[2])).sum::<u128>();
+    if numbers.len() % 3 != 0 || edits.iter().any(bad) || lengths != bytes as u128 {
+        return Err(13);
+    }
+    match edits.windows(2).any(|pair| pair[0][1] > pair[1][0]) {
+        true => Err(20),
+        false => Ok(edits),
+    }
+}
+
+/// The origins of all octets lent: the bytes of the old payload and of the edits as tags, spliced and then framed.
+fn origins(size: u64, edits: &[Edit], old_words: usize, words_lent: usize) -> Vec<Origin> {
+    let mut tags: Vec<Origin> = (0..size).map(|byte| [1, 0, byte]).collect();
+    for (number, &[from, to, length]) in edits.iter().enumerate().rev() {
+        let replacement = (0..length).map(|byte| [2, number as u64, byte]);
+        tags.splice(from as usize..to as usize, replacement);
+    }
+    let packets = SYSEX8.fewest(tags.len()).len();
+    let mut octets = Vec::new();
+    let mut tags = tags.into_iter();
+    for packet in 0..packets {
+        octets.extend((0..3).map(|octet| [0, packet as u64, octet]));
+        octets.extend(tags.by_ref().take(13));
+        octets.resize(16 * (packet + 1), [3, 0, 0]);
+    }
+    octets.resize(octets.len().max(4 * old_words), [4, 0, 0]);
+    octets.resize(4 * words_lent, [5, 0, 0]);
+    octets
+}
+
+/// An octet of words.
+fn octet(words: &[u32], place: usize) -> u8 {
+    words[place / 4].to_be_bytes()[place % 4]
+}
+
+/// The words after all edits, each octet by its origin alone. Group and id are the old message's.
+fn by_origin(input: &Input, payload: &[u8], edits: &[Edit], origins: &[Origin]) -> Vec<u32> {
+    let head = input.words[0];
+    let carried = origins.iter().filter(|origin| matches!(origin[0], 1 | 2));
+    let blank = SYSEX8.fewest_form(group(head), stream_id(head), &vec![0; carried.count()]);
+    let start = |edit: u64| {
+        edits[..edit as usize]
+            .iter()
+            .map(|edit| edit[2])
+            .sum::<u64>()
+    };
+    let octets: Vec<u8> = origins
+        .iter()
+        .enumerate()
+        .map(|(place, &[kind, number, index])| match kind {
+            0 => octet(&blank, (16 * number + index) as usize),
+            1 => payload[index as usize],
+            2 => input.bytes[(start(number) + index) as usize],
+            3 | 4 => 0,
+            _ => octet(&input.words, place),
+        })
+        .collect();
+    let four = |four: &[u8]| u32::from_be_bytes([four[0], four[1], four[2], four[3]]);
+    octets.chunks_exact(4).map(four).collect()
+}
+
+/// The origin of an octet; with it the refusal, place, length and growth of all edits at once, and the words after them.
+fn origin(input: &Input) -> Ours {
+    let refused = |(number, place): Refusal| Ours {
+        values: vec![0, 0, 0, number.into(), place, 0],
+        ..Ours::refused(number, place, &input.words)
+    };
+    if let Err(refusal) = check(&SYSEX8, &input.words, input.numbers[0]) {
+        return refused(refusal);
+    }
+    let payload = SYSEX8.payload(input.message());
+    let (old, lent) = (payload.len() as u64, input.words.len());
+    let edits = match edits_of(&input.numbers[2..], old, input.bytes.len()) {
+        Err(number) => return refused((number, 0)),
+        Ok(edits) => edits,
+    };
+    let new =
+        old + input.bytes.len() as u64 - edits.iter().map(|edit| edit[1] - edit[0]).sum::<u64>();
+    if words_needed(new) > lent as u64 {
+        return refused((14, 0));
+    }
+    let origins = origins(old, &edits, input.length(), lent);
+    let place = usize::try_from(input.numbers[1]).unwrap_or(usize::MAX);
+    let (number, [kind, part, index]) = match origins.get(place) {
+        Some(&origin) => (0, origin),
+        None => (13, [0, 0, 0]),
+    };
+    let values = vec![kind, part, index, 0, 0, words_needed(new)];
+    let words = by_origin(input, &payload, &edits, &origins);
+    Ours {
+        refusal: number,
+        ..written(values, new as i64 - old as i64, words)
+    }
 }
 
 /// Byte stream to SysEx7. Numbers are the group and the words lent.

@@ -40,6 +40,15 @@ mod calls {
     }
 
     #[repr(C)]
+    pub struct Origin {
+        pub refusal: u8,
+        pub place: usize,
+        pub kind: u8,
+        pub number: usize,
+        pub index: usize,
+    }
+
+    #[repr(C)]
     pub struct Cursor {
         pub refusal: u8,
         pub place: usize,
@@ -60,6 +69,7 @@ mod calls {
     type Words = *const u32;
     type WordsOut = *mut u32;
     type Bytes = *const u8;
+    type Numbers = *const usize;
 
     #[rustfmt::skip]
     extern "C" {
@@ -92,6 +102,8 @@ mod calls {
         pub fn latchbeacon_sysex8_repack(words: WordsOut, lent: usize, length: usize) -> Number;
         pub fn latchbeacon_sysex8_splice(words: WordsOut, lent: usize, length: usize, from: usize, to: usize, bytes: Bytes, size: usize) -> Change;
         pub fn latchbeacon_sysex8_set_payload(words: WordsOut, lent: usize, length: usize, bytes: Bytes, size: usize) -> Change;
+        pub fn latchbeacon_sysex8_splice_all(words: WordsOut, lent: usize, length: usize, numbers: Numbers, count: usize, bytes: Bytes, size: usize) -> Change;
+        pub fn latchbeacon_sysex8_origin(words: Words, lent: usize, length: usize, numbers: Numbers, count: usize, bytes: Bytes, size: usize, octet: usize) -> Origin;
         pub fn latchbeacon_sysex8_open(words: Words, lent: usize, length: usize) -> Cursor;
         pub fn latchbeacon_sysex8_next(words: Words, lent: usize, packet: usize, byte: usize, remaining: usize) -> Read;
         pub fn latchbeacon_sysex8_nth(words: Words, lent: usize, packet: usize, byte: usize, remaining: usize, skip: usize) -> Read;
@@ -122,6 +134,7 @@ pub fn answer(input: &Input) -> Ours {
             ])
         }
         Kind::Pack => pack(input),
+        Kind::Origin => origin(input),
         _ => splice(input),
     }
 }
@@ -435,6 +448,39 @@ fn splice(input: &Input) -> Ours {
         }
     };
     rewritten(change, words)
+}
+
+/// The origin of an octet; then all edits at once: the whole answer of that call, and the words that it leaves.
+fn origin(input: &Input) -> Ours {
+    let mut words = input.words.clone();
+    let edits: Vec<usize> = input.numbers[2..]
+        .iter()
+        .map(|&number| number as usize)
+        .collect();
+    let (lent, length, octet) = (words.len(), number(input, 0), number(input, 1));
+    let (numbers, count) = (edits.as_ptr(), edits.len());
+    let (bytes, size) = (input.bytes.as_ptr(), input.bytes.len());
+    let (read, room) = (input.words.as_ptr(), words.as_mut_ptr());
+    let (origin, change) = unsafe {
+        (
+            latchbeacon_sysex8_origin(read, lent, length, numbers, count, bytes, size, octet),
+            latchbeacon_sysex8_splice_all(room, lent, length, numbers, count, bytes, size),
+        )
+    };
+    Ours {
+        refusal: origin.refusal,
+        place: origin.place as u64,
+        values: vec![
+            origin.kind.into(),
+            origin.number as u64,
+            origin.index as u64,
+            change.refusal.into(),
+            change.place as u64,
+            change.length as u64,
+        ],
+        growth: change.growth,
+        words,
+    }
 }
 
 /// Byte stream to SysEx7.

@@ -38,7 +38,7 @@ fn kind_number(kind: Kind) -> Option<u64> {
         Kind::PayloadGrowing | Kind::PayloadLent => 0x27,
         Kind::Stream => 0x28,
         Kind::Needed => 0x29,
-        Kind::Steps8 | Kind::Steps7 | Kind::Check7 => return None,
+        Kind::Steps8 | Kind::Steps7 | Kind::Check7 | Kind::Origin => return None,
     })
 }
 

@@ -50,6 +50,9 @@ pub fn round(random: &mut Random, counts: &mut Counts) -> Result<(), String> {
         compare(&inputs::check7(random), counts)?;
         compare(&inputs::stream(random), counts)?;
     }
+    for _ in 0..600 {
+        compare(&inputs::origin(random), counts)?;
+    }
     for _ in 0..60 {
         chains::chain(random, counts)?;
     }
@@ -86,6 +89,7 @@ pub fn largest(random: &mut Random, counts: &mut Counts) -> Result<(), String> {
         let message = of_packets(random, packets, last, uneven);
         read_largest(&message, counts)?;
         edit_largest(random, &message, counts)?;
+        ask_largest(random, &message, counts)?;
     }
     Ok(())
 }
@@ -137,6 +141,29 @@ fn edit_largest(random: &mut Random, message: &[u32], counts: &mut Counts) -> Re
         let bytes = random.bytes(inserted);
         for kind in [Kind::PayloadLent, Kind::PayloadGrowing] {
             compare(&Input::with_bytes(kind, &words, &bytes, &[length]), counts)?;
+        }
+    }
+    Ok(())
+}
+
+/// Asks for origins in one of the largest messages, in 16,384 words: of octets anywhere, of the last, and of one past it.
+fn ask_largest(random: &mut Random, message: &[u32], counts: &mut Counts) -> Result<(), String> {
+    let mut words = message.to_vec();
+    words.resize(MOST_WORDS, 0);
+    for _ in 0..8 {
+        let list = inputs::edits(random, size(message), 12);
+        let inserted: u64 = list.chunks_exact(3).map(|edit| edit[2]).sum();
+        let bytes = random.bytes(inserted as usize);
+        for octet in [
+            random.below(4 * MOST_WORDS),
+            4 * MOST_WORDS - 1,
+            4 * MOST_WORDS,
+        ] {
+            let numbers = [&[message.len() as u64, octet as u64], &list[..]].concat();
+            compare(
+                &Input::with_bytes(Kind::Origin, &words, &bytes, &numbers),
+                counts,
+            )?;
         }
     }
     Ok(())

@@ -439,8 +439,8 @@ fn edits_at_boundaries(counts: &mut Counts) -> Result<(), String> {
     Ok(())
 }
 
-/// Lists that are refused, each with an octet that is lent and one that is not: numbers that are not whole edits, ranges
-/// reversed and past the payload, lengths that do not come to the bytes, numbers too big, no room, no message.
+/// Lists that are refused: numbers that are not whole edits, ranges reversed and past the payload, numbers too big, out of
+/// order, no room. Each with fitting and other bytes, with lengths that are no message's, and with octets lent and not.
 fn faulty_edits(counts: &mut Counts) -> Result<(), String> {
     let most = u64::MAX;
     let lists: [&[u64]; 12] = [
@@ -457,20 +457,36 @@ fn faulty_edits(counts: &mut Counts) -> Result<(), String> {
         &[1, 2, 0, 0, 1, 14],
         &[0, 2, 14],
     ];
-    let message = SYSEX8.fewest_form(6, 0x42, &numbered(2));
+    let mut words = SYSEX8.fewest_form(6, 0x42, &numbered(2));
+    words.push(0x1234_5678);
     for list in lists {
-        for (size, length) in [0, 1, 13, 14, 15, 53_249]
-            .into_iter()
-            .flat_map(|size| [0, 3, 4, 5, most].map(|length| (size, length)))
-        {
-            for octet in [0, 15, 16, most] {
-                let numbers = [&[length, octet], list].concat();
-                let bytes = vec![0xEE; size];
-                compare(
-                    &Input::with_bytes(Kind::Origin, &message, &bytes, &numbers),
-                    counts,
-                )?;
+        for size in [0, 1, 13, 14, 15, 53_249] {
+            for length in [0, 3, 4, 5, 6, most] {
+                for octet in [0, 15, 16, 19, 20, 1 << 32, 1 << 62, most] {
+                    let numbers = [&[length, octet], list].concat();
+                    let bytes = vec![0xEE; size];
+                    compare(
+                        &Input::with_bytes(Kind::Origin, &words, &bytes, &numbers),
+                        counts,
+                    )?;
+                }
             }
+        }
+    }
+    long_buffers(counts)
+}
+
+/// Origins in as many words as may be lent, and in one more.
+fn long_buffers(counts: &mut Counts) -> Result<(), String> {
+    for lent in [MOST_WORDS, MOST_WORDS + 1] {
+        let mut words = SYSEX8.fewest_form(3, 1, &numbered(20));
+        words.resize(lent, 0x0909_0909);
+        for octet in [0, 31, 32, 4 * lent as u64 - 1, 4 * lent as u64] {
+            let numbers = [8, octet, 0, 8, 1];
+            compare(
+                &Input::with_bytes(Kind::Origin, &words, &[0xEE], &numbers),
+                counts,
+            )?;
         }
     }
     Ok(())

@@ -309,7 +309,7 @@ pub fn edits(random: &mut Random, size: usize, most: usize) -> Vec<u64> {
 
 /// Spoils a list of edits in one place: a number changed, two edits the wrong way round, a number cut off or put behind.
 fn spoil(random: &mut Random, numbers: &mut Vec<u64>) {
-    let any = random.pick(&[0, 1, 53_248, 53_249, u64::MAX]);
+    let any = random.pick(&[0, 1, 53_248, 53_249, 1 << 32, u64::MAX]);
     match (random.below(4), numbers.len()) {
         (0, count @ 1..) => numbers[random.below(count)] = any,
         (1, 6..) => numbers.rotate_left(3),
@@ -339,7 +339,7 @@ pub fn origin(random: &mut Random) -> Input {
     let ends = [length as usize, words.len(), SYSEX8.fewest(new).len() * 4];
     let octet = match random.below(8) {
         0 => (4 * random.pick(&ends) + random.below(3)).saturating_sub(1),
-        1 => random.pick(&[usize::MAX, 16 * MOST_WORDS]),
+        1 => random.pick(&[usize::MAX, 4 * MOST_WORDS, 1 << 32, 1 << 62]),
         _ => random.below(4 * words.len() + 1),
     };
     let numbers = [&[length, octet as u64], &list[..]].concat();

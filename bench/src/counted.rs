@@ -49,6 +49,14 @@ fn packing(side: Side, bytes: &[u8], copy_only: bool) -> Box<dyn FnMut()> {
     })
 }
 
+/// The origin of a payload octet in the middle, which only ours answers.
+fn origin(side: Side, words: &[u32], size: usize) -> Option<Box<dyn FnMut()>> {
+    let (words, (edits, bytes)) = (words.to_vec(), inputs::edits(size));
+    let middle = inputs::middle_octet(&words);
+    let call = move || _ = black_box(port::origin(black_box(&words), &edits, &bytes, black_box(middle)));
+    (side == Side::Port).then(|| Box::new(call) as Box<dyn FnMut()>)
+}
+
 /// A call that reads, or sets one byte. The check has no bare form.
 fn small(name: &str, side: Side, words: &[u32], size: usize) -> Option<Box<dyn FnMut()>> {
     type Call = fn(&mut [u32], &mut [u8], usize);
@@ -92,6 +100,7 @@ pub fn run(arguments: &[String]) -> bool {
         "same_size" => Some(splices(side, &words, size, false)),
         "packing" => Some(packing(side, &bytes, false)),
         "copy" => Some(packing(side, &bytes, true)),
+        "origin" => origin(side, &words, size),
         name => small(name, side, &words, size),
     };
     let Some(mut call) = call else { return false };

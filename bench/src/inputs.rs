@@ -33,6 +33,18 @@ pub fn packed(bytes: &[u8]) -> Vec<u32> {
     packets(bytes, &sizes)
 }
 
+/// Edits of a payload of so many bytes, two to 13 bytes, each of one byte by another: their numbers and their bytes.
+pub fn edits(size: usize) -> (Vec<usize>, Vec<u8>) {
+    let count = 2 * size / 13;
+    let numbers = (0..count).flat_map(|edit| [13 * edit / 2, 13 * edit / 2 + 1, 1]).collect();
+    (numbers, bytes(count))
+}
+
+/// A payload octet of the packet in the middle.
+pub fn middle_octet(words: &[u32]) -> usize {
+    words.len() / 8 * 16 + 8
+}
+
 /// Seven bytes in each packet where 4,096 packets hold that; else seven in the first and thirteen in the others.
 pub fn uneven(bytes: &[u8]) -> Vec<u32> {
     let sizes: Vec<usize> = if bytes.len() <= 7 * 4_096 {

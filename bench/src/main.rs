@@ -39,6 +39,11 @@ fn print(row: &Row) {
     );
 }
 
+/// Prints a row of a call that the original does not have.
+fn print_alone(call: &str, size: usize, port: f64, floor: f64) {
+    println!("| {call} | {size} | {port:.0} | - | - | - | - | {floor:.0} | {:.1} |", port / floor);
+}
+
 /// A memmove of the words.
 fn floor(words: &[u32]) -> f64 {
     let mut room = words.to_vec();
@@ -144,6 +149,14 @@ fn packing(bytes: &[u8], floor: f64) {
     });
 }
 
+/// The origin of a payload octet in the middle, with two edits to 13 bytes.
+fn origin(words: &[u32], size: usize, floor: f64) {
+    let (edits, bytes) = inputs::edits(size);
+    let middle = inputs::middle_octet(words);
+    let port = best(|| _ = black_box(port::origin(black_box(words), black_box(&edits), black_box(&bytes), black_box(middle))));
+    print_alone("origin in the middle", size, port, floor);
+}
+
 /// All calls on a payload of so many bytes.
 fn run(size: usize) {
     let bytes = inputs::bytes(size);
@@ -154,6 +167,7 @@ fn run(size: usize) {
     set_byte(&words, size, floor);
     splices(&bytes, &words, floor);
     packing(&bytes, floor);
+    origin(&words, size, floor);
 }
 
 /// The call that the arguments name, or the table, a size after the other.

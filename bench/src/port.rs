@@ -25,6 +25,15 @@ struct Change {
     growth: i64,
 }
 
+#[repr(C)]
+struct Origin {
+    refusal: u8,
+    place: usize,
+    kind: u8,
+    number: usize,
+    index: usize,
+}
+
 type Words = *const u32;
 type Room = *mut u32;
 
@@ -43,6 +52,16 @@ extern "C" {
         replacement: *const u8,
         replacement_lent: usize,
     ) -> Change;
+    fn latchbeacon_sysex8_origin(
+        words: Words,
+        lent: usize,
+        length: usize,
+        numbers: *const usize,
+        numbers_lent: usize,
+        bytes: *const u8,
+        bytes_lent: usize,
+        octet: usize,
+    ) -> Origin;
 }
 
 /// The check.
@@ -75,6 +94,15 @@ pub fn set_byte(words: &mut [u32], index: usize, value: u8) {
 pub fn pack(words: &mut [u32]) {
     let answer = unsafe { latchbeacon_sysex8_repack(words.as_mut_ptr(), words.len(), words.len()) };
     assert!(answer.refusal == 0);
+}
+
+/// The origin of an octet once all edits are done: kind, number and index.
+pub fn origin(words: &[u32], edits: &[usize], bytes: &[u8], octet: usize) -> (u8, usize, usize) {
+    let (address, lent) = (words.as_ptr(), words.len());
+    let (numbers, count) = (edits.as_ptr(), edits.len());
+    let answer = unsafe { latchbeacon_sysex8_origin(address, lent, lent, numbers, count, bytes.as_ptr(), bytes.len(), octet) };
+    assert!(answer.refusal == 0);
+    (answer.kind, answer.number, answer.index)
 }
 
 /// A message in a buffer with room for more.

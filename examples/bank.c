@@ -3,7 +3,8 @@
  *
  * The bank has three entries of eight bytes: a number, six letters of a name, a level. Its sender cut the packets short: they have
  * 10, 0, 13 and 1 bytes. The program renames the second entry by a splice. Then it takes the first entry out and puts a longer one
- * in the place of the third, at once. Last it shows that a splice that does not fit is refused, and that the bank stays as it was.
+ * in the place of the third, at once, and before that says where some octets of the result come from. Last it shows that a splice
+ * that does not fit is refused, and that the bank stays as it was.
  */
 #include <inttypes.h>
 #include <stdbool.h>
@@ -82,11 +83,29 @@ static size_t rename_second(size_t length) {
     return print_change("splice", latchbeacon_sysex8_splice(bank, LENT, length, 9, 15, name, sizeof name));
 }
 
-/* Takes the first entry out and replaces the third by one of eleven bytes. */
+/* Prints where some octets come from once these edits are done; answers whether none was refused. */
+static bool print_origins(size_t length, const size_t *edits, size_t numbers, const uint8_t *bytes, size_t count) {
+    static const char *const kinds[] = {"header", "dump", "edit", "filler", "zeroed", "untouched"};
+    static const size_t octets[] = {1, 3, 11, 16, 19, 25, 32};
+    for (size_t index = 0; index < sizeof octets / sizeof *octets; index++) {
+        latchbeacon_origin origin = latchbeacon_sysex8_origin(bank, LENT, length, edits, numbers, bytes, count, octets[index]);
+        if (origin.refusal != 0) {
+            print_refusal("origin", origin.refusal, origin.place);
+            return false;
+        }
+        printf("octet %zu: %s %zu %zu\n", octets[index], kinds[origin.kind], origin.number, origin.index);
+    }
+    return true;
+}
+
+/* Takes the first entry out and replaces the third by one of eleven bytes, after a look at where octets will come from. */
 static size_t replace_others(size_t length) {
     static const size_t edits[] = {0, 8, 0, 16, 24, 11};
     static const uint8_t bytes[] = {0x04, 'W', 'I', 'D', 'E', ' ', 'P', 'A', 'D', ' ', 0x43};
     size_t numbers = sizeof edits / sizeof *edits;
+    if (!print_origins(length, edits, numbers, bytes, sizeof bytes)) {
+        return 0;
+    }
     return print_change("splice_all", latchbeacon_sysex8_splice_all(bank, LENT, length, edits, numbers, bytes, sizeof bytes));
 }
 

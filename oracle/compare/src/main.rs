@@ -27,7 +27,8 @@ use options::{stop, Options};
 use random::Random;
 use std::time::{Duration, Instant};
 
-/// Runs the exhaustive part, the largest messages, then rounds of random inputs until the time is over.
+/// Runs the exhaustive part, the largest messages, then rounds of random inputs until the time is over. Inputs for ours
+/// alone have numbers of their own, so that the others are the same with and without them.
 fn compare_all(options: &Options, counts: &mut Counts) -> Result<(), String> {
     let start = Instant::now();
     exhaustive::run(counts)?;
@@ -37,7 +38,9 @@ fn compare_all(options: &Options, counts: &mut Counts) -> Result<(), String> {
         start.elapsed().as_secs_f64()
     );
     let mut random = Random::new(options.seed);
+    let mut apart = Random::new(!options.seed);
     sampled::largest(&mut random, counts)?;
+    sampled::largest_origins(&mut apart, counts)?;
     println!(
         "largest messages done, {:.1} s",
         start.elapsed().as_secs_f64()
@@ -48,6 +51,7 @@ fn compare_all(options: &Options, counts: &mut Counts) -> Result<(), String> {
         None => start.elapsed() < Duration::from_secs(options.seconds),
     } {
         sampled::round(&mut random, counts)?;
+        sampled::origins(&mut apart, counts)?;
         rounds += 1;
     }
     println!(

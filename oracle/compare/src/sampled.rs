@@ -50,11 +50,16 @@ pub fn round(random: &mut Random, counts: &mut Counts) -> Result<(), String> {
         compare(&inputs::check7(random), counts)?;
         compare(&inputs::stream(random), counts)?;
     }
-    for _ in 0..600 {
-        compare(&inputs::origin(random), counts)?;
-    }
     for _ in 0..60 {
         chains::chain(random, counts)?;
+    }
+    Ok(())
+}
+
+/// One round of random inputs for the call that the original does not have.
+pub fn origins(random: &mut Random, counts: &mut Counts) -> Result<(), String> {
+    for _ in 0..600 {
+        compare(&inputs::origin(random), counts)?;
     }
     Ok(())
 }
@@ -89,7 +94,6 @@ pub fn largest(random: &mut Random, counts: &mut Counts) -> Result<(), String> {
         let message = of_packets(random, packets, last, uneven);
         read_largest(&message, counts)?;
         edit_largest(random, &message, counts)?;
-        ask_largest(random, &message, counts)?;
     }
     Ok(())
 }
@@ -142,6 +146,15 @@ fn edit_largest(random: &mut Random, message: &[u32], counts: &mut Counts) -> Re
         for kind in [Kind::PayloadLent, Kind::PayloadGrowing] {
             compare(&Input::with_bytes(kind, &words, &bytes, &[length]), counts)?;
         }
+    }
+    Ok(())
+}
+
+/// Origins in the largest messages.
+pub fn largest_origins(random: &mut Random, counts: &mut Counts) -> Result<(), String> {
+    for (packets, last, uneven) in [(4096, 13, false), (4095, 13, false), (4096, 5, true)] {
+        let message = of_packets(random, packets, last, uneven);
+        ask_largest(random, &message, counts)?;
     }
     Ok(())
 }

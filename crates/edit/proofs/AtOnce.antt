@@ -21,16 +21,16 @@ use Rattle.ump.specs.Splice.{Spliced, rewritten}
 use Rattle.ump.specs.Edits.{Edit, Patch, patchAt, editsFor, Apart, replaced, allBytes, perEdit, editsOf, patchesOf, lengths, someBad, badList, someOverlap, allChecks, spliceAll}
 use Rattle.ump.specs.Holds.{Fewest}
 use Rattle.ump.specs.Worker.{Fits}
-use Rattle.ump.specs.Origin.{Origin, originIn, origin, octetFrom, Traced}
+use Rattle.ump.specs.Origin.{Origin, origin, octetFrom, Traced}
 use Rattle.ump.proofs.Words.{below-take, below-drop}
 use Rattle.ump.proofs.Sizes.{words-mono}
 use Rattle.ump.proofs.Checks.{pass-both, or-left, or-right}
-use Rattle.ump.proofs.First.{Side, under, over, side}
 use Rattle.ump.proofs.Splicing.{below-payload}
 use Rattle.ump.proofs.Replace.{endFrom, end-before, end-next}
 use Rattle.ump.proofs.Done.{writes-given, guard-passed}
-use Rattle.ump.proofs.Demand.{rewritten-is-fewest}
-use Rattle.ump.proofs.Origins.{below-replaced, rewritten-traced}
+use Rattle.ump.proofs.Demand.{same-message, rewritten-is-fewest}
+use Rattle.ump.proofs.Origins.{octet-front, below-replaced, rewritten-traced}
+use Rattle.ump.proofs.Asking.{asked-refused, asked-lent, Given, asked-given}
 use Rattle.edit.proofs.Apart.{apart, size-replaced}
 use Rattle.edit.proofs.Lists.{same-bytes}
 
@@ -49,10 +49,9 @@ edits-for (edit ∷ edits) bytes h =
     (length-take-le (edit .length) bytes (omega arith))
     (edits-for edits (drop (edit .length) bytes) (omega (arith, length-drop (edit .length) bytes)))
 
--- ---- what is known where they are done
+-- ---- what is known where the checks pass
 
-module _ (s : Shape) (words : List ℕ) (len : ℕ) (numbers bytes : List ℕ) (change : Spliced) (left : List ℕ)
-    (done : spliceAll s words len numbers bytes ≡ (gives change, left)) where
+module _ (s : Shape) (words : List ℕ) (len : ℕ) (numbers bytes : List ℕ) (ok : allChecks s words len numbers bytes ≡ pass) where
   abbrev old : List ℕ
   old = payloadOf s words len
 
@@ -63,95 +62,113 @@ module _ (s : Shape) (words : List ℕ) (len : ℕ) (numbers bytes : List ℕ) (
   new = replaced old patches
 
   record Known : Type 0 where
-    checked : allChecks s words len numbers bytes ≡ pass
     passes : check s words len ≡ pass
     good : someBad (length old) (editsOf numbers) ≡ false
     whole : length bytes ≡ lengths (editsOf numbers)
     clear : someOverlap 0 (editsOf numbers) ≡ false
     room : wordsFor s (length new) ≤ length words
-    length-is : wordsFor s (length new) ≡ change .length
-    left-is : rewritten s words len new ≡ left
 
   known : Known
-  unfolding spliceAll
   known =
       let range = guard (badList (length old) (length bytes) numbers) 13 0 in
       let overlap = guard (someOverlap 0 (editsOf numbers)) 20 0 in
       let last = guard (ltb (length words) (wordsFor s (length new))) 14 0 in
-      let w =
-      writes-given (allChecks s words len numbers bytes) words (rewritten s words len new)
-      (record { length = wordsFor s (length new); growth = pos (length new) -ℤ pos (length old) }) done
-      in
-      let a = pass-both (check s words len) (range ▷ overlap ▷ last) (w .0) in
+      let a = pass-both (check s words len) (range ▷ overlap ▷ last) ok in
       let b = pass-both range (overlap ▷ last) (a .1) in
       let c = pass-both overlap last (b .1) in
       let ragged = not (eqb (length numbers % perEdit) 0) in
       let uneven = not (eqb (length bytes) (lengths (editsOf numbers))) in
       let listed = or-right ragged (someBad (length old) (editsOf numbers) || uneven) (guard-passed (badList (length old) (length bytes) numbers) 13 0 (b .0)) in
       record {
-        checked = w .0;
         passes = a .0;
         good = or-left (someBad (length old) (editsOf numbers)) uneven listed;
         whole = same-bytes (length bytes) (lengths (editsOf numbers)) (or-right (someBad (length old) (editsOf numbers)) uneven listed);
         clear = guard-passed (someOverlap 0 (editsOf numbers)) 20 0 (c .0);
         room = ltb-false (length words) (wordsFor s (length new)) (guard-passed (ltb (length words) (wordsFor s (length new))) 14 0 (c .1));
-        length-is = ap (λ (x : Spliced). x .length) (w .1);
-        left-is = w .2;
       }
 
-  all-apart : Apart patches (length old)
-  all-apart = apart (length old) (editsOf numbers) bytes (known .good) (known .clear)
+  module _ (small : Below (s .limit) bytes) where
+    small-patches : (k : ℕ) → k < length patches → Below (s .limit) (patchAt patches k .bytes)
+    small-patches = below-patches (s .limit) (editsOf numbers) bytes small
 
-  -- the question for an octet lent is answered, by its origin
-  pub origin-is : (q : ℕ) → q < 4 * length words
-      → origin s words len numbers bytes q ≡ gives (originIn s (length (payloadOf s words len)) (editsOf numbers) (change .length) len q)
-  unfolding origin
-  origin-is q h =
-      rw (known .checked, lt-ltb q (4 * length words) h)
-      (ap (λ (n : ℕ). gives (originIn s (length old) (editsOf numbers) n len q)) (known .length-is))
+    fewest : Fewest s (groupAt s words 0) (idAt s words 0) new (length words) (rewritten s words len new) (wordsFor s (length new))
+    fewest =
+        rewritten-is-fewest s words len new (known .passes)
+        (below-replaced (s .limit) old patches (below-payload s words (len / s .words)) small-patches) (known .room)
 
-  -- and one past the words lent is refused
-  pub origin-past : (q : ℕ) → 4 * length words ≤ q → origin s words len numbers bytes q ≡ refused 13 0
-  unfolding origin
-  origin-past q h = rw (known .checked, le-ltb q (4 * length words) h)
+    traces : Traced s words len patches len (rewritten s words len new) (wordsFor s (length new))
+    traces = rewritten-traced s words len patches (known .passes) (apart (length old) (editsOf numbers) bytes (known .good) (known .clear)) small-patches (known .room)
+
+    told : (q : ℕ) (o : Origin) → Given s words len numbers bytes q o → getD (octets (rewritten s words len new)) q 0 ≡ octetFrom s words len patches q o
+    told q o g =
+        let same : editsFor patches ≡ editsOf numbers = edits-for (editsOf numbers) bytes (omega (arith, known .whole)) in
+        (rw same at (traces .octet q (g .lent))) ∙ ap (octetFrom s words len patches q) (g .is)
+
+-- ---- what is answered of an octet says what it is
+
+module _ (s : Shape) (words : List ℕ) (len : ℕ) (numbers bytes : List ℕ) (small : Below (s .limit) bytes)
+    (q : ℕ) (o : Origin) (answer : origin s words len numbers bytes q ≡ gives o) where
+  abbrev given : Given s words len numbers bytes q o
+  given = asked-given s words len numbers bytes q o answer
+
+  -- in any message that is the fewest-packet form of the result
+  pub told-anyhow : {left : List ℕ} {size : ℕ}
+      → Fewest s (groupAt s words 0) (idAt s words 0) (replaced (payloadOf s words len) (patchesOf (editsOf numbers) bytes)) (length words) left size → q < 4 * size
+      → getD (octets left) q 0 ≡ octetFrom s words len (patchesOf (editsOf numbers) bytes) q o
+  told-anyhow {left} {size} f h =
+      let all = fewest s words len numbers bytes (given .checked) small in
+      let same = same-message refl refl refl f all in
+      octet-front left size q h
+      ∙ ap (λ (m : List ℕ). getD (octets m) q 0) (same .1)
+      ∙ sym (octet-front (rewritten s words len (new s words len numbers bytes (given .checked))) _ q (rw (same .0) at h))
+      ∙ told s words len numbers bytes (given .checked) small q o given
+
+  -- and anywhere in the words, where all edits were done at once
+  pub told-at-once : {change : Spliced} {left : List ℕ} → spliceAll s words len numbers bytes ≡ (gives change, left)
+      → getD (octets left) q 0 ≡ octetFrom s words len (patchesOf (editsOf numbers) bytes) q o
+  unfolding spliceAll
+  told-at-once e =
+      let w = writes-given (allChecks s words len numbers bytes) words _ _ e in
+      ap (λ (m : List ℕ). getD (octets m) q 0) (sym (w .2)) ∙ told s words len numbers bytes (given .checked) small q o given
+
+-- ---- where they are done
+
+module _ (s : Shape) (words : List ℕ) (len : ℕ) (numbers bytes : List ℕ) (change : Spliced) (left : List ℕ)
+    (done : spliceAll s words len numbers bytes ≡ (gives change, left)) where
+  record Done : Type 0 where
+    ok : allChecks s words len numbers bytes ≡ pass
+    length-is : wordsFor s (length (replaced (payloadOf s words len) (patchesOf (editsOf numbers) bytes))) ≡ change .length
+    left-is : rewritten s words len (replaced (payloadOf s words len) (patchesOf (editsOf numbers) bytes)) ≡ left
+
+  is-done : Done
+  unfolding spliceAll
+  is-done =
+      let w = writes-given (allChecks s words len numbers bytes) words _ _ done in
+      record { ok = w .0; length-is = ap (λ (x : Spliced). x .length) (w .1); left-is = w .2 }
+
+  -- the question for each octet lent is answered
+  pub answered : {q number place : ℕ} → q < 4 * length words → origin s words len numbers bytes q ≡ refused number place → ⊥
+  answered {q} h e = never-refused (sym e ∙ sym (asked-lent s words len numbers bytes q (is-done .ok) h))
 
   module _ (small : Below (s .limit) bytes) where
     pub all-fewest : Fewest s (groupAt s words 0) (idAt s words 0) (replaced (payloadOf s words len) (patchesOf (editsOf numbers) bytes)) (length words) left (change .length)
-    all-fewest =
-        rw (← (known .length-is), ← (known .left-is))
-        (rewritten-is-fewest s words len new (known .passes)
-        (below-replaced (s .limit) old patches (below-payload s words (len / s .words)) (below-patches (s .limit) (editsOf numbers) bytes small))
-        (known .room))
+    all-fewest = rw (← (is-done .length-is), ← (is-done .left-is)) (fewest s words len numbers bytes (is-done .ok) small)
 
     pub all-traced : Traced s words len (patchesOf (editsOf numbers) bytes) len left (change .length)
-    all-traced =
-        rw (← (known .length-is), ← (known .left-is))
-        (rewritten-traced s words len patches (known .passes) all-apart (below-patches (s .limit) (editsOf numbers) bytes small) (known .room))
+    all-traced = rw (← (is-done .length-is), ← (is-done .left-is)) (traces s words len numbers bytes (is-done .ok) small)
 
-    -- what is answered of an octet says what it is
-    pub origin-told : (q : ℕ) (o : Origin) → origin s words len numbers bytes q ≡ gives o
-        → getD (octets left) q 0 ≡ octetFrom s words len (patchesOf (editsOf numbers) bytes) q o
-    origin-told q o e = go (side q (4 * length words))
-      where
-        go : Side q (4 * length words) → getD (octets left) q 0 ≡ octetFrom s words len (patchesOf (editsOf numbers) bytes) q o
-        go (under h d) =
-            let same : editsFor patches ≡ editsOf numbers = edits-for (editsOf numbers) bytes (omega (arith, known .whole)) in
-            let is : originIn s (length old) (editsOf numbers) (change .length) len q ≡ o = cc (sym (origin-is q h) ∙ e) in
-            (rw same at (all-traced .octet q h)) ∙ ap (octetFrom s words len patches q) is
-        go (over h d) = never-refused (sym (origin-past q h) ∙ e)
-
--- ---- a list that is refused
+-- ---- where they are refused
 
 writes-refused : {A : Type 0} (v : Verdict) (before written : List ℕ) (value : A) {number place : ℕ} {left : List ℕ}
     → writes v before value written ≡ (refused number place, left) → v ≡ refused number place
 writes-refused {A} (gives u) before written value e = never-refused (sym (ap (λ (o : Answer A × List ℕ). o .0) e))
 writes-refused {A} (refused n p) before written value e = cc (ap (λ (o : Answer A × List ℕ). o .0) e)
 
--- the question is refused as the edits are
-pub origin-refused : (s : Shape) (words : List ℕ) (len : ℕ) (numbers bytes : List ℕ) {number place : ℕ} {left : List ℕ}
+-- the question is refused as they are
+pub refused-alike : (s : Shape) (words : List ℕ) (len : ℕ) (numbers bytes : List ℕ) {number place : ℕ} {left : List ℕ}
     → spliceAll s words len numbers bytes ≡ (refused number place, left) → (q : ℕ) → origin s words len numbers bytes q ≡ refused number place
-unfolding origin spliceAll
-origin-refused s words len numbers bytes e q = rw (writes-refused (allChecks s words len numbers bytes) words _ _ e)
+unfolding spliceAll
+refused-alike s words len numbers bytes e q = sym (asked-refused s words len numbers bytes q (writes-refused (allChecks s words len numbers bytes) words _ _ e))
 
 -- ---- they are not refused where they can be done one after the other
 

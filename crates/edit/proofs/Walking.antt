@@ -15,6 +15,7 @@ use Rattle.ump.specs.Check.{payloadOf}
 use Rattle.ump.specs.Edits.{Edit, replaced, perEdit, editIn, editsOf, patchesOf, someBad, someOverlap, allChecks}
 use Rattle.ump.specs.Runs.{Run, runFrom, runAt}
 use Rattle.ump.specs.Origin.{headerOctet, carried, dumpByte, editByte, filler, zeroed, untouched, beginning, originOf, originIn, origin}
+use Rattle.ump.proofs.Asking.{asked-past, asked-lent}
 use Rattle.ump.proofs.Runs.{run-tail, run-past, run-gap, run-within, run-later}
 use Rattle.edit.proofs.Lists.{rest, rest-all, rest-end, rest-step, Kept, kept-none, kept-on}
 
@@ -82,38 +83,31 @@ module _ (n : ℕ) (edits : List Edit) (q : ℕ) where
   unfolding originOf
   octet-byte h = rw (le-ltb (q % 16) 3 h)
 
--- ---- the call, case by case
+-- ---- the call, part by part of the words lent
 
-module _ (words : List ℕ) (len : ℕ) (numbers bytes : List ℕ) (q : ℕ) where
-  pub origin-refused : {n p : ℕ} → allChecks sysex8 words len numbers bytes ≡ refused n p → refused n p ≡ origin sysex8 words len numbers bytes q
-  unfolding origin
-  origin-refused e = rw e
+module _ (words : List ℕ) (len : ℕ) (numbers bytes : List ℕ) (q : ℕ) (ok : allChecks sysex8 words len numbers bytes ≡ pass) where
+  pub origin-behind : length words ≤ q / 4 → refused 13 0 ≡ origin sysex8 words len numbers bytes q
+  origin-behind h = asked-past sysex8 words len numbers bytes q ok (omega arith)
 
-  module _ (ok : allChecks sysex8 words len numbers bytes ≡ pass) where
-    pub origin-behind : length words ≤ q / 4 → refused 13 0 ≡ origin sysex8 words len numbers bytes q
-    unfolding origin
-    origin-behind h = rw (ok, le-ltb q (4 * length words) (omega arith))
+  abbrev old : List ℕ
+  old = payloadOf sysex8 words len
 
-    abbrev old : List ℕ
-    old = payloadOf sysex8 words len
+  abbrev new : ℕ
+  new = wordsFor sysex8 (length (replaced old (patchesOf (editsOf numbers) bytes)))
 
-    abbrev new : ℕ
-    new = wordsFor sysex8 (length (replaced old (patchesOf (editsOf numbers) bytes)))
+  module _ (h : q / 4 < length words) {needed : ℕ} (e : needed ≡ new) where
+    origin-lent : gives (originIn sysex8 (length old) (editsOf numbers) new len q) ≡ origin sysex8 words len numbers bytes q
+    origin-lent = asked-lent sysex8 words len numbers bytes q ok (omega arith)
 
-    module _ (h : q / 4 < length words) {needed : ℕ} (e : needed ≡ new) where
-      origin-lent : gives (originIn sysex8 (length old) (editsOf numbers) new len q) ≡ origin sysex8 words len numbers bytes q
-      unfolding origin
-      origin-lent = rw (ok, lt-ltb q (4 * length words) (omega arith))
+    pub origin-message : {n : ℕ} → n ≡ length old → q / 4 < needed → gives (originOf sysex8 n (editsOf numbers) q) ≡ origin sysex8 words len numbers bytes q
+    unfolding originIn
+    origin-message s a = rw s (rw (lt-ltb q (4 * new) (omega arith)) at origin-lent)
 
-      pub origin-message : {n : ℕ} → n ≡ length old → q / 4 < needed → gives (originOf sysex8 n (editsOf numbers) q) ≡ origin sysex8 words len numbers bytes q
+    module _ (a : needed ≤ q / 4) where
+      pub origin-zeroed : q / 4 < len → gives zeroed ≡ origin sysex8 words len numbers bytes q
       unfolding originIn
-      origin-message s a = rw s (rw (lt-ltb q (4 * new) (omega arith)) at origin-lent)
+      origin-zeroed b = rw (le-ltb q (4 * new) (omega arith), lt-ltb q (4 * len) (omega arith)) at origin-lent
 
-      module _ (a : needed ≤ q / 4) where
-        pub origin-zeroed : q / 4 < len → gives zeroed ≡ origin sysex8 words len numbers bytes q
-        unfolding originIn
-        origin-zeroed b = rw (le-ltb q (4 * new) (omega arith), lt-ltb q (4 * len) (omega arith)) at origin-lent
-
-        pub origin-untouched : len ≤ q / 4 → gives untouched ≡ origin sysex8 words len numbers bytes q
-        unfolding originIn
-        origin-untouched b = rw (le-ltb q (4 * new) (omega arith), le-ltb q (4 * len) (omega arith)) at origin-lent
+      pub origin-untouched : len ≤ q / 4 → gives untouched ≡ origin sysex8 words len numbers bytes q
+      unfolding originIn
+      origin-untouched b = rw (le-ltb q (4 * new) (omega arith), le-ltb q (4 * len) (omega arith)) at origin-lent

@@ -1,4 +1,4 @@
--- The calls `splice` and `move_edit`, with any outcome that their promises allow: two calls for a worker. And so `repack` and `splice_all`.
+-- The calls `splice` and `move_edit`, with any outcome that their promises allow: two calls for a worker. And so `repack`, `splice_all` and `origin`.
 -- Definitions alone. Assumes nothing.
 use mathlib.Core.Path.{_≡_}
 use mathlib.Core.Bool.{Bool}
@@ -10,6 +10,7 @@ use borrow.Fn.Kinds.{Dens, endedOf}
 use Rattle.refusal.specs.Answer.{Answer}
 use Rattle.ump.specs.Splice as ump
 use Rattle.ump.specs.Edits.{Edit}
+use Rattle.ump.specs.Origin.{Origin}
 use Rattle.ump.specs.Worker.{Calls, mapAnswer, over}
 use Rattle.splice.specs.Meaning.{repackedMeaning, splicedMeaning}
 use Rattle.splice.specs.declared.sysex8.Repacked.{Repacked}
@@ -18,13 +19,16 @@ use Rattle.splice.proofs.sysex8.repack.Kinds as repack-kinds
 use Rattle.splice.proofs.sysex8.repack.Reads as repack
 use Rattle.splice.proofs.sysex8.splice.Kinds as splice-kinds
 use Rattle.splice.proofs.sysex8.splice.Reads as splice
-use Rattle.edit.specs.Meaning.{movedMeaning}
+use Rattle.edit.specs.Meaning.{movedMeaning, originMeaning}
 use Rattle.edit.specs.declared.Edit as declared
 use Rattle.edit.specs.declared.Moved.{Moved}
+use Rattle.edit.specs.declared.origins.OctetOrigin.{OctetOrigin}
 use Rattle.edit.proofs.move_edit.Kinds as move-kinds
 use Rattle.edit.proofs.move_edit.Reads as move
 use Rattle.edit.proofs.all.splice_all.Kinds as all-kinds
 use Rattle.edit.proofs.all.splice_all.Reads as all
+use Rattle.edit.proofs.origins.origin.Kinds as origin-kinds
+use Rattle.edit.proofs.origins.origin.Reads as origin
 
 -- `splice` is called on these words, this length, this edit's range and these bytes; it answers what means this, and leaves these words
 pub record Splices (words : List ℕ) (len : ℕ) (edit : Edit) (bytes : List ℕ) (answer : Answer ump.Spliced) (left : List ℕ) : Type 0 where
@@ -81,3 +85,17 @@ pub record SplicesAll (words : List ℕ) (len : ℕ) (numbers bytes : List ℕ) 
   pub bytes-are : arguments .1 .1 .1 .0 .now ≡ bytes
   pub answer-is : splicedMeaning said ≡ answer
   pub left-are : exit .0 .now ≡ left
+
+-- `origin` is called on these words, this length, these numbers and bytes and an octet's index; it answers what means this
+pub record Asks (words : List ℕ) (len : ℕ) (numbers bytes : List ℕ) (q : ℕ) (answer : Answer Origin) : Type 0 where
+  pub lifetimes : Lfts 3
+  pub arguments : Dens lifetimes origin-kinds.ps
+  pub said : OctetOrigin
+  pub exit : AtExit (endedOf 3 origin-kinds.ps origin-kinds.r) lifetimes
+  pub promise : origin.Post lifetimes arguments said exit
+  pub words-are : arguments .0 .now ≡ words
+  pub length-is : arguments .1 .0 ≡ len
+  pub numbers-are : arguments .1 .1 .0 .now ≡ numbers
+  pub bytes-are : arguments .1 .1 .1 .0 .now ≡ bytes
+  pub octet-is : arguments .1 .1 .1 .1 .0 ≡ q
+  pub answer-is : originMeaning said ≡ answer

@@ -2,33 +2,34 @@
 use mathlib.Core.Path.{_≡_, refl, sym, ap, _∙_}
 use mathlib.Core.Bool.{Bool, false}
 use mathlib.Core.List.{List, [], _∷_}
-use Prim.Native.Nat.{ℕ}
+use Prim.Native.Nat.{ℕ, _*_, _<_}
 use native.Mathlib.Omega.{arith}
 use lib.Dec.{lit<}
-use lib.ListN.{length, take}
+use lib.ListN.{length, getD, take}
 use denote.Ref.{RefT}
 use borrow.Author.Tests.{ne-eqb}
 use Rattle.refusal.specs.Answer.{Answer, gives, refused}
 use Rattle.refusal.proofs.Laws.{never-refused}
-use Rattle.ump.specs.Word.{Below}
+use Rattle.ump.specs.Word.{octets, Below}
 use Rattle.ump.specs.Packet.{sysex8}
 use Rattle.ump.specs.Check.{payloadOf}
 use Rattle.ump.specs.Splice.{Spliced, splice, repack}
 use Rattle.ump.specs.Edits.{Edit, Range, Patch, moveEdit, editsOf, patchesOf, badList, spliceAll}
 use Rattle.ump.specs.Worker.{Works, finished, mapAnswer, over, Finishes, Fits, bytesOf, start, Each}
 use Rattle.ump.specs.Demand.{Demand3}
-use Rattle.ump.specs.Origin.{Traced}
+use Rattle.ump.specs.Origin.{Origin, headerOctet, carried, dumpByte, editByte, filler, zeroed, untouched, origin, octetFrom, Traced}
 use Rattle.ump.specs.Samples.{message5, patches8}
 use Rattle.ump.proofs.Meets.{movedEdit}
-use Rattle.ump.proofs.Numbered.{Numbered, accepted, numbered, repack-numbered, splice-numbered, all-numbered, move-numbered}
+use Rattle.ump.proofs.Numbered.{Numbered, accepted, numbered, repack-numbered, splice-numbered, all-numbered, origin-numbered, move-numbered}
 use Rattle.ump.proofs.Demand.{same-message}
 use Rattle.ump.proofs.Demand3.{dense8, plain-demand3, PlainMeets, PlainAnswers}
 use Rattle.ump.proofs.NotEmpty.{fits8}
 use Rattle.ump.proofs.Origins as origins
 use Rattle.ump.proofs.Origins.{single}
+use Rattle.edit.proofs.AtOnce as at-once
 use Rattle.edit.proofs.AtOnce.{all-fewest, all-accepted, all-traced}
-use Rattle.latchbeacon.specs.Answers.{leaving, numberAnswer, changeAnswer, rangeAnswer}
-use Rattle.latchbeacon.proofs.Worker.{numberRead, changeRead, rangeRead, Splices, Moves, calls, Repacks, SplicesAll}
+use Rattle.latchbeacon.specs.Answers.{leaving, numberAnswer, changeAnswer, rangeAnswer, originAnswer}
+use Rattle.latchbeacon.proofs.Worker.{numberRead, changeRead, rangeRead, originRead, Splices, Moves, calls, Repacks, SplicesAll, Asks}
 
 -- ---- reading a struct gives back the answer, as no refusal has the number 0
 
@@ -43,6 +44,15 @@ change-read (refused number place) (numbered h) = rw (ne-eqb number 0 (λ q. ome
 range-read : (answer : Answer Range) → Numbered answer → rangeRead (rangeAnswer answer) ≡ answer
 range-read (gives range) h = refl
 range-read (refused number place) (numbered h) = rw (ne-eqb number 0 (λ q. omega arith))
+
+origin-read : (answer : Answer Origin) → Numbered answer → originRead (originAnswer answer) ≡ answer
+origin-read (gives (headerOctet p j)) h = refl
+origin-read (gives (carried (dumpByte i))) h = refl
+origin-read (gives (carried (editByte k j))) h = refl
+origin-read (gives filler) h = refl
+origin-read (gives zeroed) h = refl
+origin-read (gives untouched) h = refl
+origin-read (refused number place) (numbered h) = rw (ne-eqb number 0 (λ q. omega arith))
 
 -- and so with what is lent after a call
 read-leaving : {A B : Type 0} (struct : A → B) (read : B → A) {said : B} {answer : A} {left : List ℕ} (outcome : A × List ℕ)
@@ -159,3 +169,36 @@ pub at-once-traced : {words : List ℕ} {len : ℕ} {numbers bytes : List ℕ} {
     → SplicesAll words len numbers bytes (gives change) left → Below 256 bytes
     → Traced sysex8 words len (patchesOf (editsOf numbers) bytes) len left (change .length)
 at-once-traced {words} {len} {numbers} {bytes} {change} {left} call small = all-traced sysex8 words len numbers bytes change left (sym (all-plain call)) small
+
+-- ---- what `latchbeacon_sysex8_origin` answers
+
+asked-plain : {words : List ℕ} {len : ℕ} {numbers bytes : List ℕ} {q : ℕ} {answer : Answer Origin} → Asks words len numbers bytes q answer
+    → answer ≡ origin sysex8 words len numbers bytes q
+asked-plain {words} {len} {numbers} {bytes} {q} a =
+    sym (a .answer-is)
+    ∙ ap originRead (rw (a .words-are, a .length-is, a .numbers-are, a .bytes-are, a .octet-is) at (a .promise))
+    ∙ origin-read (origin sysex8 words len numbers bytes q) (origin-numbered sysex8 words len numbers bytes q)
+
+module _ {words : List ℕ} {len : ℕ} {numbers bytes : List ℕ} {q : ℕ} where
+  -- It says what each octet is that `latchbeacon_sysex8_splice_all` leaves.
+  pub told-at-once : {o : Origin} → Asks words len numbers bytes q (gives o) → Below 256 bytes
+      → {change : Spliced} {left : List ℕ} → SplicesAll words len numbers bytes (gives change) left
+      → getD (octets left) q 0 ≡ octetFrom sysex8 words len (patchesOf (editsOf numbers) bytes) q o
+  told-at-once {o} ask small call = at-once.told-at-once sysex8 words len numbers bytes small q o (sym (asked-plain ask)) (sym (all-plain call))
+
+  -- It says what each octet of the message is that a worker leaves who does the same edits, in any order.
+  pub told-of-worker : {o : Origin} → Asks words len numbers bytes q (gives o) → Below 256 bytes
+      → Fits sysex8 words len (patchesOf (editsOf numbers) bytes) → (order : List ℕ) → Each (patchesOf (editsOf numbers) bytes) order → {left : List ℕ} {size : ℕ}
+      → Works calls (bytesOf (patchesOf (editsOf numbers) bytes)) (start words len (patchesOf (editsOf numbers) bytes)) order (finished left size)
+      → q < 4 * size → getD (octets left) q 0 ≡ octetFrom sysex8 words len (patchesOf (editsOf numbers) bytes) q o
+  told-of-worker {o} ask small fits order each w h =
+      at-once.told-anyhow sysex8 words len numbers bytes small q o (sym (asked-plain ask)) (demand3 fits .result order each w) h
+
+  -- It is refused for no octet lent where `latchbeacon_sysex8_splice_all` is done, and as that is where it is refused.
+  pub asked-answered : {change : Spliced} {left : List ℕ} → SplicesAll words len numbers bytes (gives change) left → q < 4 * length words
+      → {number place : ℕ} → Asks words len numbers bytes q (refused number place) → ⊥
+  asked-answered {change} {left} call h ask = at-once.answered sysex8 words len numbers bytes change left (sym (all-plain call)) h (sym (asked-plain ask))
+
+  pub asked-refused : {number place : ℕ} {left : List ℕ} → SplicesAll words len numbers bytes (refused number place) left
+      → {answer : Answer Origin} → Asks words len numbers bytes q answer → answer ≡ refused number place
+  asked-refused call ask = asked-plain ask ∙ at-once.refused-alike sysex8 words len numbers bytes (sym (all-plain call)) q

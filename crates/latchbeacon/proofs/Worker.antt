@@ -11,16 +11,20 @@ use borrow.Fn.Kinds.{Dens, endedOf}
 use Rattle.refusal.specs.Answer.{Answer, gives, refused}
 use Rattle.ump.specs.Splice.{Spliced}
 use Rattle.ump.specs.Edits.{Edit, Range}
+use Rattle.ump.specs.Origin.{Origin, headerOctet, carried, dumpByte, editByte, filler, zeroed, untouched}
 use Rattle.ump.specs.Worker.{Calls, mapAnswer, over}
 use Rattle.latchbeacon.specs.declared.answers.NumberAnswer.{NumberAnswer}
 use Rattle.latchbeacon.specs.declared.answers.ChangeAnswer.{ChangeAnswer}
 use Rattle.latchbeacon.specs.declared.answers.RangeAnswer.{RangeAnswer}
+use Rattle.latchbeacon.specs.declared.answers.OriginAnswer.{OriginAnswer}
 use Rattle.latchbeacon.proofs.splices.latchbeacon_sysex8_repack.Kinds as repack-kinds
 use Rattle.latchbeacon.proofs.splices.latchbeacon_sysex8_repack.Reads as exported-repack
 use Rattle.latchbeacon.proofs.splices.latchbeacon_sysex8_splice.Kinds as splice-kinds
 use Rattle.latchbeacon.proofs.splices.latchbeacon_sysex8_splice.Reads as exported-splice
 use Rattle.latchbeacon.proofs.splices.latchbeacon_sysex8_splice_all.Kinds as all-kinds
 use Rattle.latchbeacon.proofs.splices.latchbeacon_sysex8_splice_all.Reads as exported-all
+use Rattle.latchbeacon.proofs.splices.latchbeacon_sysex8_origin.Kinds as origin-kinds
+use Rattle.latchbeacon.proofs.splices.latchbeacon_sysex8_origin.Reads as exported-origin
 use Rattle.latchbeacon.proofs.edits.latchbeacon_move_edit.Kinds as move-kinds
 use Rattle.latchbeacon.proofs.edits.latchbeacon_move_edit.Reads as exported-move
 
@@ -34,6 +38,17 @@ changeRead said = cond (eqb (said .refusal) 0) (gives (record { length = said .l
 
 abbrev pub rangeRead : RangeAnswer → Answer Range
 rangeRead said = cond (eqb (said .refusal) 0) (gives (record { from = said .from; to = said .to })) (refused (said .refusal) (said .place))
+
+-- the kinds of an origin by their numbers, as the header has them
+abbrev pub originRead : OriginAnswer → Answer Origin
+originRead said =
+    cond (eqb (said .refusal) 0)
+    (gives
+    (cond (eqb (said .kind) 0) (headerOctet (said .number) (said .index))
+    (cond (eqb (said .kind) 1) (carried (dumpByte (said .index)))
+    (cond (eqb (said .kind) 2) (carried (editByte (said .number) (said .index)))
+    (cond (eqb (said .kind) 3) filler (cond (eqb (said .kind) 4) zeroed untouched))))))
+    (refused (said .refusal) (said .place))
 
 -- ---- the calls
 
@@ -90,3 +105,17 @@ pub record SplicesAll (words : List ℕ) (len : ℕ) (numbers bytes : List ℕ) 
   pub bytes-are : arguments .1 .1 .1 .0 .now ≡ bytes
   pub answer-is : changeRead said ≡ answer
   pub left-are : exit .0 .now ≡ left
+
+-- `latchbeacon_sysex8_origin` is called on these words, this length, these numbers and bytes and an octet's index
+pub record Asks (words : List ℕ) (len : ℕ) (numbers bytes : List ℕ) (q : ℕ) (answer : Answer Origin) : Type 0 where
+  pub lifetimes : Lfts 3
+  pub arguments : Dens lifetimes origin-kinds.ps
+  pub said : OriginAnswer
+  pub exit : AtExit (endedOf 3 origin-kinds.ps origin-kinds.r) lifetimes
+  pub promise : exported-origin.Post lifetimes arguments said exit
+  pub words-are : arguments .0 .now ≡ words
+  pub length-is : arguments .1 .0 ≡ len
+  pub numbers-are : arguments .1 .1 .0 .now ≡ numbers
+  pub bytes-are : arguments .1 .1 .1 .0 .now ≡ bytes
+  pub octet-is : arguments .1 .1 .1 .1 .0 ≡ q
+  pub answer-is : originRead said ≡ answer

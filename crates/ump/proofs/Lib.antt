@@ -30,3 +30,4 @@ pub mod Demand
 pub mod Demand3
 pub mod Orders
 pub mod Numbered
+pub mod Asking

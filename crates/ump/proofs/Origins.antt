@@ -114,7 +114,7 @@ octet-behind words most left new behind q h = octet-in left q ∙ ap (λ (x : �
     go (over l e) = rw (e, le-ltb q (4 * most) (omega arith)) (sym (octet-in words q))
 
 -- an octet of the first words
-octet-front : (m : List ℕ) (n q : ℕ) → q < 4 * n → getD (octets m) q 0 ≡ getD (octets (take n m)) q 0
+pub octet-front : (m : List ℕ) (n q : ℕ) → q < 4 * n → getD (octets m) q 0 ≡ getD (octets (take n m)) q 0
 octet-front m n q h =
     octet-in m q ∙ ap (λ (x : ℕ). octet x (q % 4)) (sym (getD-take n m (q / 4) 0 (omega arith))) ∙ sym (octet-in (take n m) q)
 

@@ -5,7 +5,7 @@ use Rattle.ump.specs.Packet.{sysex8}
 use Rattle.message.specs.Meaning.{checkMeaning8}
 use Rattle.message.proofs.Checked.{taken, not-taken}
 use Rattle.edit.proofs.Whole.{checks-refused}
-use Rattle.edit.proofs.Walking.{origin-refused}
+use Rattle.ump.proofs.Asking.{asked-refused}
 use Rattle.edit.proofs.origins.origin.Statement.{statement}
 use Rattle.edit.proofs.origins.origin.Tie as tie
 
@@ -19,7 +19,7 @@ returns : tie.Need-returns
 returns c =
     let k = c .before in
     let a = k .before .before .before .before .before .before .args in
-    origin-refused _ _ _ _ _
+    asked-refused _ _ _ _ _ _
     (checks-refused _ _ (a .numbers .now) (a .bytes .now) (not-taken sysex8 _ _ (sym (k .before .before .check .ensures) ∙ ap checkMeaning8 (k .checked .given .1))))
 
 pub origin-spec : {M : Type 1} → statement M

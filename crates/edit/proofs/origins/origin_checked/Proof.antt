@@ -10,12 +10,13 @@ use Rattle.ump.specs.Packet.{sysex8}
 use Rattle.ump.specs.Packing.{wordsFor}
 use Rattle.ump.specs.Check.{payloadOf}
 use Rattle.ump.specs.Edits.{editsOf, patchesOf, replaced, allChecks}
+use Rattle.ump.proofs.Asking.{asked-refused}
 use Rattle.splice.proofs.Messages.{inside, size-fits}
 use Rattle.edit.specs.Meaning.{listedMeaning}
 use Rattle.edit.specs.Listed.{listed}
 use Rattle.edit.proofs.Lists.{list-passes}
 use Rattle.edit.proofs.Whole.{checks-listed, checks-room, checks-pass, new-sized}
-use Rattle.edit.proofs.Walking.{origin-refused, origin-behind, origin-message, origin-zeroed, origin-untouched}
+use Rattle.edit.proofs.Walking.{origin-behind, origin-message, origin-zeroed, origin-untouched}
 use Rattle.edit.proofs.origins.origin_checked.Statement.{statement}
 use Rattle.edit.proofs.origins.origin_checked.Tie as tie
 
@@ -59,7 +60,7 @@ returns c =
     let n = c .before .before in
     let d = start n in
     ap faultOf (c .fault .ensures)
-    ∙ origin-refused _ _ _ _ _
+    ∙ asked-refused _ _ _ _ _ _
     (checks-room _ _ (d .args .numbers .now) (d .args .bytes .now) (d .pre .passes) (listing n) (rw (n .words-needed .ensures) at (c .before .if1 .taken)))
 
 returns-2 : tie.Need-returns-2
@@ -82,7 +83,7 @@ returns-5 : tie.Need-returns-5
 returns-5 c =
     let k = c .before .before .before in
     let d = k .before .before .before .before in
-    origin-refused _ _ _ _ _
+    asked-refused _ _ _ _ _ _
     (checks-listed _ _ (d .args .numbers .now) (d .args .bytes .now) (d .pre .passes) (given k ∙ ap listedMeaning (c .before .listed .given .1)))
 
 returns-6 : tie.Need-returns-6

@@ -5,14 +5,13 @@ use mathlib.Core.Bool.{Bool, cond}
 use mathlib.Core.List.{List}
 use Prim.Native.Nat.{ℕ}
 use lib.Dec.{eqb}
-use contract.Lifetimes.{Lfts}
-use denote.Triple.Clauses.{AtExit}
-use borrow.Fn.Kinds.{Dens, endedOf}
 use Rattle.refusal.specs.Answer.{Answer, gives, refused}
 use Rattle.ump.specs.Splice.{Spliced}
 use Rattle.ump.specs.Edits.{Edit, Range}
 use Rattle.ump.specs.Origin.{Origin, headerOctet, carried, dumpByte, editByte, filler, zeroed, untouched}
-use Rattle.ump.specs.Worker.{Calls, mapAnswer, over}
+use Rattle.ump.specs.Worker.{mapAnswer, over}
+use Rattle.ump.specs.Demand.{Family}
+use Rattle.edit.proofs.Called.{Called}
 use Rattle.latchbeacon.specs.declared.answers.NumberAnswer.{NumberAnswer}
 use Rattle.latchbeacon.specs.declared.answers.ChangeAnswer.{ChangeAnswer}
 use Rattle.latchbeacon.specs.declared.answers.RangeAnswer.{RangeAnswer}
@@ -54,68 +53,38 @@ originRead said =
 
 -- `latchbeacon_sysex8_splice` is called on these words, this length, this edit's range and these bytes; its struct is read so, and it
 -- leaves these words
-pub record Splices (words : List ℕ) (len : ℕ) (edit : Edit) (bytes : List ℕ) (answer : Answer Spliced) (left : List ℕ) : Type 0 where
-  pub lifetimes : Lfts 2
-  pub arguments : Dens lifetimes splice-kinds.ps
-  pub said : ChangeAnswer
-  pub exit : AtExit (endedOf 2 splice-kinds.ps splice-kinds.r) lifetimes
-  pub promise : exported-splice.Post lifetimes arguments said exit
-  pub words-are : arguments .0 .now ≡ words
-  pub length-is : arguments .1 .0 ≡ len
-  pub from-is : arguments .1 .1 .0 ≡ edit .from
-  pub to-is : arguments .1 .1 .1 .0 ≡ edit .to
-  pub bytes-are : arguments .1 .1 .1 .1 .0 .now ≡ bytes
-  pub answer-is : changeRead said ≡ answer
-  pub left-are : exit .0 .now ≡ left
+abbrev pub Splices : List ℕ → ℕ → Edit → List ℕ → Answer Spliced → List ℕ → Type 0
+Splices words len edit bytes answer left =
+    Called 2 splice-kinds.ps splice-kinds.r exported-splice.Post
+    (λ κs a. (a .0 .now ≡ words) × (a .1 .0 ≡ len) × (a .1 .1 .0 ≡ edit .from) × (a .1 .1 .1 .0 ≡ edit .to) × (a .1 .1 .1 .1 .0 .now ≡ bytes))
+    (λ κs said. changeRead said) (λ κs exit. exit .0 .now ≡ left) answer
 
--- `latchbeacon_move_edit` is called on a done edit, a pending one and which of them is first; its struct is read so
-pub record Moves (done pending : Edit) (done-first : Bool) (answer : Answer Edit) : Type 0 where
-  pub lifetimes : Lfts 0
-  pub said : RangeAnswer
-  pub exit : AtExit (endedOf 0 move-kinds.ps move-kinds.r) lifetimes
-  pub promise : exported-move.Post lifetimes
-      (done .from, (done .to, (done .length, (pending .from, (pending .to, (pending .length, (done-first, tt))))))) said exit
-  pub answer-is : mapAnswer (over pending) (rangeRead said) ≡ answer
-
-abbrev pub calls : Calls (List ℕ) Edit
-calls = record { Splices = Splices; Moves = Moves }
+-- `latchbeacon_move_edit` is called on a done edit, a pending one and which of them is first
+abbrev pub Moves : Edit → Edit → Bool → Answer Edit → Type 0
+Moves done pending done-first answer =
+    Called 0 move-kinds.ps move-kinds.r exported-move.Post
+    (λ κs a. a ≡ (done .from, (done .to, (done .length, (pending .from, (pending .to, (pending .length, (done-first, tt))))))))
+    (λ κs said. mapAnswer (over pending) (rangeRead said)) (λ κs exit. Unit {0}) answer
 
 -- `latchbeacon_sysex8_repack` is called on these words and this length
-pub record Repacks (words : List ℕ) (len : ℕ) (answer : Answer ℕ) (left : List ℕ) : Type 0 where
-  pub lifetimes : Lfts 1
-  pub arguments : Dens lifetimes repack-kinds.ps
-  pub said : NumberAnswer
-  pub exit : AtExit (endedOf 1 repack-kinds.ps repack-kinds.r) lifetimes
-  pub promise : exported-repack.Post lifetimes arguments said exit
-  pub words-are : arguments .0 .now ≡ words
-  pub length-is : arguments .1 .0 ≡ len
-  pub answer-is : numberRead said ≡ answer
-  pub left-are : exit .0 .now ≡ left
+abbrev pub Repacks : List ℕ → ℕ → Answer ℕ → List ℕ → Type 0
+Repacks words len answer left =
+    Called 1 repack-kinds.ps repack-kinds.r exported-repack.Post (λ κs a. (a .0 .now ≡ words) × (a .1 .0 ≡ len))
+    (λ κs said. numberRead said) (λ κs exit. exit .0 .now ≡ left) answer
 
 -- `latchbeacon_sysex8_splice_all` is called on these words, this length, these numbers and bytes
-pub record SplicesAll (words : List ℕ) (len : ℕ) (numbers bytes : List ℕ) (answer : Answer Spliced) (left : List ℕ) : Type 0 where
-  pub lifetimes : Lfts 3
-  pub arguments : Dens lifetimes all-kinds.ps
-  pub said : ChangeAnswer
-  pub exit : AtExit (endedOf 3 all-kinds.ps all-kinds.r) lifetimes
-  pub promise : exported-all.Post lifetimes arguments said exit
-  pub words-are : arguments .0 .now ≡ words
-  pub length-is : arguments .1 .0 ≡ len
-  pub numbers-are : arguments .1 .1 .0 .now ≡ numbers
-  pub bytes-are : arguments .1 .1 .1 .0 .now ≡ bytes
-  pub answer-is : changeRead said ≡ answer
-  pub left-are : exit .0 .now ≡ left
+abbrev pub SplicesAll : List ℕ → ℕ → List ℕ → List ℕ → Answer Spliced → List ℕ → Type 0
+SplicesAll words len numbers bytes answer left =
+    Called 3 all-kinds.ps all-kinds.r exported-all.Post
+    (λ κs a. (a .0 .now ≡ words) × (a .1 .0 ≡ len) × (a .1 .1 .0 .now ≡ numbers) × (a .1 .1 .1 .0 .now ≡ bytes))
+    (λ κs said. changeRead said) (λ κs exit. exit .0 .now ≡ left) answer
 
 -- `latchbeacon_sysex8_origin` is called on these words, this length, these numbers and bytes and an octet's index
-pub record Asks (words : List ℕ) (len : ℕ) (numbers bytes : List ℕ) (q : ℕ) (answer : Answer Origin) : Type 0 where
-  pub lifetimes : Lfts 3
-  pub arguments : Dens lifetimes origin-kinds.ps
-  pub said : OriginAnswer
-  pub exit : AtExit (endedOf 3 origin-kinds.ps origin-kinds.r) lifetimes
-  pub promise : exported-origin.Post lifetimes arguments said exit
-  pub words-are : arguments .0 .now ≡ words
-  pub length-is : arguments .1 .0 ≡ len
-  pub numbers-are : arguments .1 .1 .0 .now ≡ numbers
-  pub bytes-are : arguments .1 .1 .1 .0 .now ≡ bytes
-  pub octet-is : arguments .1 .1 .1 .1 .0 ≡ q
-  pub answer-is : originRead said ≡ answer
+abbrev pub Asks : List ℕ → ℕ → List ℕ → List ℕ → ℕ → Answer Origin → Type 0
+Asks words len numbers bytes q answer =
+    Called 3 origin-kinds.ps origin-kinds.r exported-origin.Post
+    (λ κs a. (a .0 .now ≡ words) × (a .1 .0 ≡ len) × (a .1 .1 .0 .now ≡ numbers) × (a .1 .1 .1 .0 .now ≡ bytes) × (a .1 .1 .1 .1 .0 ≡ q))
+    (λ κs said. originRead said) (λ κs exit. Unit {0}) answer
+
+abbrev pub family : Family
+family = record { calls = record { Splices = Splices; Moves = Moves }; Repacks = Repacks; SplicesAll = SplicesAll; Asks = Asks }

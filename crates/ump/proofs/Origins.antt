@@ -32,7 +32,7 @@ use Rattle.ump.proofs.Done.{known, packed}
 use Rattle.ump.proofs.Behind.{Behind, rewritten-behind}
 use Rattle.ump.proofs.Packing.{octets-frame, length-chunk, below-chunk, packet-packs}
 use Rattle.ump.proofs.Sources.{sources, replaced-from, one, count, dump-once, patch-once}
-use Rattle.ump.proofs.Runs.{begins-at}
+use Rattle.ump.proofs.Runs.{begins-at, read-at}
 
 -- ---- origins by a list of sources
 
@@ -64,12 +64,6 @@ module _ (s : Shape) (words : List ℕ) (len : ℕ) (patches : List Patch) (from
   abbrev made : List ℕ
   made = map (byteFrom (payloadOf s words len) patches) from
 
-  at : (ss : List Source) (n q : ℕ)
-      → getD (map (byteFrom (payloadOf s words len) patches) ss) n 0 ≡ octetFrom s words len patches q (getD (map carried ss) n filler)
-  at [] n q = refl
-  at (x ∷ ss) zero q = refl
-  at (x ∷ ss) (suc n) q = at ss n q
-
   -- each octet of the fewest-packet form is what its origin says
   octet-from : (q : ℕ) → q < 4 * wordsFor s (length from)
       → getD (octets (pack s (groupAt s words 0) (idAt s words 0) made)) q 0 ≡ octetFrom s words len patches q (originBy s from q)
@@ -95,7 +89,8 @@ module _ (s : Shape) (words : List ℕ) (len : ℕ) (patches : List Patch) (from
           → cond (ltb j (header s)) (getD (headerOctets s (groupAt s words 0) (idAt s words 0) (length made) p) j 0) (getD made (s .room * p + (j - header s)) 0)
           ≡ octetFrom s words len patches q (cond (ltb j (header s)) (headerOctet p j) (getD (map carried from) (s .room * p + (j - header s)) filler))
       go p j c (under k e) = rw e (ap (λ (n : ℕ). getD (headerOctets s (groupAt s words 0) (idAt s words 0) n p) j 0) c)
-      go p j c (over k e) = rw e (at from (s .room * p + (j - header s)) q)
+      go p j c (over k e) =
+          rw e (read-at (byteFrom (payloadOf s words len) patches) (octetFrom s words len patches q) (λ x. refl) refl from (s .room * p + (j - header s)))
 
 -- ---- behind the message
 

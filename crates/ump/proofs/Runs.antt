@@ -10,13 +10,13 @@ use lib.Dec.{ltb}
 use lib.ListN.{length, getD}
 use borrow.Author.Tests.{lt-ltb, le-ltb}
 use Rattle.ump.specs.Packet.{joined}
-use Rattle.ump.specs.Edits.{Edit, Patch, patchAt, editsFor, endBefore}
+use Rattle.ump.specs.Edits.{Edit, Patch, patchAt, editsFor, endBefore, Apart, replaced}
 use Rattle.ump.specs.Runs.{ofDump, ofEdit, past, runFrom, runAt}
-use Rattle.ump.specs.Origin.{Source, dumpByte, editByte, Origin, carried, filler, beginning}
+use Rattle.ump.specs.Origin.{Source, dumpByte, editByte, byteFrom, Origin, headerOctet, carried, filler, zeroed, untouched, beginning}
 use Rattle.ump.proofs.First.{Side, under, over, side}
 use Rattle.ump.proofs.Joined.{joined-cong, joined-front}
 use Rattle.ump.proofs.Replace.{endFrom, end-before, end-next}
-use Rattle.ump.proofs.Sources.{dumpBytes, editBytes, sources}
+use Rattle.ump.proofs.Sources.{dumpBytes, editBytes, sources, replaced-from}
 
 module _ (n end k i : ℕ) where
   pub run-tail : i < n - end → runFrom n end k [] i ≡ ofDump k (end + i) n
@@ -147,3 +147,27 @@ begins-from n start k (patch ∷ patches) i =
 -- the run at byte i begins at source i
 pub begins-at : (n : ℕ) (patches : List Patch) (i : ℕ) → beginning (runAt n (editsFor patches) i) ≡ getD (map carried (sources n patches)) i filler
 begins-at n patches i = begins-from n 0 0 patches i ∙ ap (λ (l : List Source). getD (map carried l) i filler) (sym (sources-are n patches))
+
+-- ---- byte n of the result, without making the result
+
+-- bytes by their sources, read by what an origin says
+pub read-at : (f : Source → ℕ) (g : Origin → ℕ) → ((source : Source) → f source ≡ g (carried source)) → 0 ≡ g filler
+    → (ss : List Source) (i : ℕ) → getD (map f ss) i 0 ≡ g (getD (map carried ss) i filler)
+read-at f g e z [] i = z
+read-at f g e z (x ∷ ss) zero = e x
+read-at f g e z (x ∷ ss) (suc i) = read-at f g e z ss i
+
+-- the byte that an origin carries; 0 where it carries none
+abbrev carriedByte : List ℕ → List Patch → Origin → ℕ
+carriedByte bytes patches (headerOctet p j) = 0
+carriedByte bytes patches (carried source) = byteFrom bytes patches source
+carriedByte bytes patches filler = 0
+carriedByte bytes patches zeroed = 0
+carriedByte bytes patches untouched = 0
+
+pub byte-of-list : (bytes : List ℕ) (patches : List Patch) → Apart patches (length bytes) → (n : ℕ)
+    → getD (replaced bytes patches) n 0 ≡ carriedByte bytes patches (beginning (runAt (length bytes) (editsFor patches) n))
+byte-of-list bytes patches apart n =
+    ap (λ (l : List ℕ). getD l n 0) (replaced-from bytes patches apart)
+    ∙ read-at (byteFrom bytes patches) (carriedByte bytes patches) (λ x. refl) refl (sources (length bytes) patches) n
+    ∙ ap (carriedByte bytes patches) (sym (begins-at (length bytes) patches n))

@@ -93,13 +93,6 @@ module _ (bytes : List ℕ) (patches : List Patch) (apart : Apart patches (lengt
       (map-append value (joined part m) (dumpBytes (endBefore patches m) (length bytes))
       ∙ ap₂ (λ (x y : List ℕ). x ++ y) (map-joined value part m ∙ joined-cong (λ k. map value (part k)) old m each) tail)
 
-  -- byte n of the result, without making the result (past its end: 0)
-  pub byte-of-list : (n : ℕ) → getD (replaced bytes patches) n 0 ≡ byteFrom bytes patches (getD (sources (length bytes) patches) n (dumpByte (length bytes)))
-  byte-of-list n =
-      let from : List Source = sources (length bytes) patches in
-      let past : 0 ≡ getD bytes (length bytes) 0 = sym (List·getD-eq-default bytes 0 (omega arith)) in
-      ap (λ (l : List ℕ). getD l n 0) replaced-from ∙ ap (getD (map value from) n) past ∙ List·getD-map value from n (dumpByte (length bytes))
-
 -- ---- how often a source comes in a list of sources
 
 abbrev pub one : Bool → ℕ

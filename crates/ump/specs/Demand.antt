@@ -1,14 +1,22 @@
--- What demand 3 says of a worker that begins with a message and edits of it, by whatever calls.
+-- What demand 3 says of a worker that begins with a message and edits of it, by whatever calls; and what an auditor asks of all calls
+-- that edit a message.
 -- Assumes nothing.
-use mathlib.Core.List.{List, []}
-use Prim.Native.Nat.{ℕ}
-use lib.ListN.{length}
+use mathlib.Core.Path.{_≡_}
+use mathlib.Core.Bool.{false}
+use mathlib.Core.List.{List, [], _∷_}
+use Prim.Native.Nat.{ℕ, _*_, _<_}
+use lib.ListN.{length, getD, take}
+use Rattle.refusal.specs.Answer.{Answer, gives, refused}
+use Rattle.ump.specs.Word.{octets, Below}
 use Rattle.ump.specs.Packet.{Shape, groupAt, idAt}
 use Rattle.ump.specs.Check.{payloadOf}
-use Rattle.ump.specs.Edits.{Edit, Patch, replaced, Order}
+use Rattle.ump.specs.Splice.{Spliced}
+use Rattle.ump.specs.Edits.{Edit, Patch, replaced, editsOf, patchesOf, badList, Order}
 use Rattle.ump.specs.Holds.{Fewest}
-use Rattle.ump.specs.Worker.{Calls, Held, End, finished, stopped, Works, Finishes, bytesOf, Each, Placed, reached}
-use Rattle.ump.specs.Origin.{Traced}
+use Rattle.ump.specs.Worker.{Calls, Held, End, finished, stopped, Works, Finishes, Fits, bytesOf, start, Each, Placed, reached}
+use Rattle.ump.specs.Origin.{Origin, octetFrom, Traced}
+
+-- ---- demand 3
 
 -- `wordsOf` reads the words off what is lent, `editOf` the range and length off an edit as the worker keeps it
 pub record Demand3 {Lent Record : Type 0} (shape : Shape) (wordsOf : Lent → List ℕ) (editOf : Record → Edit) (calls : Calls Lent Record)
@@ -28,3 +36,64 @@ pub record Demand3 {Lent Record : Type 0} (shape : Shape) (wordsOf : Lent → Li
   -- Each octet of the words lent comes from where its origin says.
   pub origins : (order : List ℕ) → Each patches order → {left : Lent} {size : ℕ} → (w : Works calls (bytesOf patches) held order (finished left size))
       → Traced shape (wordsOf (held .lent)) (held .length) patches (reached w) (wordsOf left) size
+
+-- ---- all calls that edit a message
+
+-- by the outcomes that they allow: a splice and a move; packing; all edits of a list at once; where an octet comes from
+pub record Family : Type 1 where
+  pub calls : Calls (List ℕ) Edit
+  pub Repacks : List ℕ → ℕ → Answer ℕ → List ℕ → Type 0
+  pub SplicesAll : List ℕ → ℕ → List ℕ → List ℕ → Answer Spliced → List ℕ → Type 0
+  pub Asks : List ℕ → ℕ → List ℕ → List ℕ → ℕ → Answer Origin → Type 0
+
+pub record Audited (shape : Shape) (family : Family) : Type 0 where
+  -- Demand 3 holds of each message and edits that it allows.
+  pub demand3 : {words : List ℕ} {len : ℕ} {patches : List Patch} → Fits shape words len patches
+      → Demand3 shape (λ words. words) (λ edit. edit) (family .calls) patches (start words len patches)
+  -- Two workers, each with words of its own, whose messages have one group, id and payload, each in an order of its own and with any
+  -- outcomes of its calls, come to the same length and the same words of the message. (Words past the message may differ.)
+  pub two-workers : {words other : List ℕ} {len len-other : ℕ} {patches : List Patch} → Fits shape words len patches → Fits shape other len-other patches
+      → groupAt shape words 0 ≡ groupAt shape other 0 → idAt shape words 0 ≡ idAt shape other 0
+      → payloadOf shape words len ≡ payloadOf shape other len-other
+      → (order order-other : List ℕ) → Each patches order → Each patches order-other → {left left-other : List ℕ} {size size-other : ℕ}
+      → Works (family .calls) (bytesOf patches) (start words len patches) order (finished left size)
+      → Works (family .calls) (bytesOf patches) (start other len-other patches) order-other (finished left-other size-other)
+      → (size ≡ size-other) × (take size left ≡ take size-other left-other)
+  -- All edits at once give what any order gives: the same length and the same words of the message.
+  pub any-order : {words : List ℕ} {len : ℕ} {numbers bytes : List ℕ} {change : Spliced} {left : List ℕ}
+      → family .SplicesAll words len numbers bytes (gives change) left → Below (shape .limit) bytes
+      → Fits shape words len (patchesOf (editsOf numbers) bytes) → (order : List ℕ) → Each (patchesOf (editsOf numbers) bytes) order
+      → {left-other : List ℕ} {size : ℕ}
+      → Works (family .calls) (bytesOf (patchesOf (editsOf numbers) bytes)) (start words len (patchesOf (editsOf numbers) bytes)) order (finished left-other size)
+      → (change .length ≡ size) × (take (change .length) left ≡ take size left-other)
+  -- Of edits that demand 3 allows, lent as whole edits with their bytes, none is refused at once.
+  pub at-once-accepted : {words : List ℕ} {len : ℕ} {numbers bytes : List ℕ} {number place : ℕ} {left : List ℕ}
+      → Fits shape words len (patchesOf (editsOf numbers) bytes) → badList (length (payloadOf shape words len)) (length bytes) numbers ≡ false
+      → family .SplicesAll words len numbers bytes (refused number place) left → ⊥
+  -- Where each octet of the words lent comes from after packing, which is a list of no edits;
+  pub repack-traced : {words : List ℕ} {len new : ℕ} {left : List ℕ} → family .Repacks words len (gives new) left → Traced shape words len [] len left new
+  -- after a splice, a list of one;
+  pub splice-traced : {words : List ℕ} {len : ℕ} {edit : Edit} {bytes : List ℕ} {change : Spliced} {left : List ℕ}
+      → family .calls .Splices words len edit bytes (gives change) left → Below (shape .limit) bytes
+      → Traced shape words len (record { from = edit .from; to = edit .to; bytes = bytes } ∷ []) len left (change .length)
+  -- and after all edits at once. (After a worker: demand3.)
+  pub at-once-traced : {words : List ℕ} {len : ℕ} {numbers bytes : List ℕ} {change : Spliced} {left : List ℕ}
+      → family .SplicesAll words len numbers bytes (gives change) left → Below (shape .limit) bytes
+      → Traced shape words len (patchesOf (editsOf numbers) bytes) len left (change .length)
+  -- What is answered of an octet says what it is: anywhere in the words lent, where all edits were done at once;
+  pub told-at-once : {words : List ℕ} {len : ℕ} {numbers bytes : List ℕ} {q : ℕ} {o : Origin} → family .Asks words len numbers bytes q (gives o)
+      → Below (shape .limit) bytes → {change : Spliced} {left : List ℕ} → family .SplicesAll words len numbers bytes (gives change) left
+      → getD (octets left) q 0 ≡ octetFrom shape words len (patchesOf (editsOf numbers) bytes) q o
+  -- and in the message that a worker leaves who does the same edits, in any order.
+  pub told-of-worker : {words : List ℕ} {len : ℕ} {numbers bytes : List ℕ} {q : ℕ} {o : Origin} → family .Asks words len numbers bytes q (gives o)
+      → Below (shape .limit) bytes → Fits shape words len (patchesOf (editsOf numbers) bytes)
+      → (order : List ℕ) → Each (patchesOf (editsOf numbers) bytes) order → {left : List ℕ} {size : ℕ}
+      → Works (family .calls) (bytesOf (patchesOf (editsOf numbers) bytes)) (start words len (patchesOf (editsOf numbers) bytes)) order (finished left size)
+      → q < 4 * size → getD (octets left) q 0 ≡ octetFrom shape words len (patchesOf (editsOf numbers) bytes) q o
+  -- It is refused for no octet lent where all edits are done at once, and as they are where they are refused.
+  pub asked-answered : {words : List ℕ} {len : ℕ} {numbers bytes : List ℕ} {q : ℕ} {change : Spliced} {left : List ℕ}
+      → family .SplicesAll words len numbers bytes (gives change) left → q < 4 * length words
+      → {number place : ℕ} → family .Asks words len numbers bytes q (refused number place) → ⊥
+  pub asked-refused : {words : List ℕ} {len : ℕ} {numbers bytes : List ℕ} {q : ℕ} {number place : ℕ} {left : List ℕ}
+      → family .SplicesAll words len numbers bytes (refused number place) left
+      → {answer : Answer Origin} → family .Asks words len numbers bytes q answer → answer ≡ refused number place

@@ -17,7 +17,7 @@ use Rattle.ump.specs.Check.{payloadOf}
 use Rattle.ump.specs.Splice.{spliced, Spliced, splice}
 use Rattle.ump.specs.Edits.{Edit, Patch, patchAt, Apart, allBytes, elem, movedPast, Order}
 use Rattle.ump.specs.Holds.{Holds, Fewest}
-use Rattle.ump.specs.Worker.{Calls, Held, End, finished, stopped, Works, rests, goes-on, splice-refused, move-refused, mapAnswer, Finishes, bytesOf, Stands, Placed, reached}
+use Rattle.ump.specs.Worker.{Calls, Held, End, finished, stopped, Works, rests, goes-on, splice-refused, move-refused, mapAnswer, Finishes, bytesOf, InPlace, Placed, reached}
 use Rattle.ump.proofs.Meets.{movedEdit, View, Ready, Meets, CanSplice, CanMove, Answers}
 use Rattle.ump.proofs.First.{is-false}
 use Rattle.ump.proofs.Sizes.{words-mono}
@@ -209,7 +209,7 @@ module _ {Lent Record : Type 0} (s : Shape) (view : View Lent Record) (calls : C
 
   -- ---- where each edit stands
 
-  stands : (ds : List ℕ) (i : ℕ) (order : List ℕ) (held : Held Lent Record) → At ds (i ∷ order) held → Stands es ds i (view .editOf (held .edit i))
+  stands : (ds : List ℕ) (i : ℕ) (order : List ℕ) (held : Held Lent Record) → At ds (i ∷ order) held → InPlace es ds i (view .editOf (held .edit i))
   stands ds i order held at =
       rw (is-i ds i order held at)
       (record {

@@ -98,7 +98,7 @@ Each patches order = Order (length patches) order × (length order ≡ length pa
 -- ---- where each edit stands when it is spliced
 
 -- edit i, with these done: the old range, plus the signed growth of the lower-numbered ones among them
-pub record Stands (patches : List Patch) (done : List ℕ) (i : ℕ) (edit : Edit) : Type 0 where
+pub record InPlace (patches : List Patch) (done : List ℕ) (i : ℕ) (edit : Edit) : Type 0 where
   pub from : pos (edit .from) ≡ pos (patchAt patches i .from) +ℤ grown patches done i
   pub to : pos (edit .to) ≡ pos (patchAt patches i .to) +ℤ grown patches done i
 
@@ -106,9 +106,9 @@ pub record Stands (patches : List Patch) (done : List ℕ) (i : ℕ) (edit : Edi
 abbrev pub Placed : {Lent Record : Type 0} {calls : Calls Lent Record} {bytes : ℕ → List ℕ} {held : Held Lent Record} {order : List ℕ} {end : End Lent}
     → (Record → Edit) → List Patch → List ℕ → Works calls bytes held order end → Type 0
 Placed editOf patches done rests = Unit {0}
-Placed editOf patches done (goes-on {held = held} {i = i} s m w) = Stands patches done i (editOf (held .edit i)) × Placed editOf patches (i ∷ done) w
-Placed editOf patches done (splice-refused {held = held} {i = i} s) = Stands patches done i (editOf (held .edit i))
-Placed editOf patches done (move-refused {held = held} {i = i} s k e m) = Stands patches done i (editOf (held .edit i))
+Placed editOf patches done (goes-on {held = held} {i = i} s m w) = InPlace patches done i (editOf (held .edit i)) × Placed editOf patches (i ∷ done) w
+Placed editOf patches done (splice-refused {held = held} {i = i} s) = InPlace patches done i (editOf (held .edit i))
+Placed editOf patches done (move-refused {held = held} {i = i} s k e m) = InPlace patches done i (editOf (held .edit i))
 
 -- ---- the longest message on the way, in words
 

@@ -76,7 +76,7 @@ size-replaced p es a =
       all (out es),
     )
 
-all-put : (es : List Edit) (bytes : List ℕ) → lengths es ≤ length bytes → total (put (patchesOf es bytes)) (length (patchesOf es bytes)) ≡ lengths es
+pub all-put : (es : List Edit) (bytes : List ℕ) → lengths es ≤ length bytes → total (put (patchesOf es bytes)) (length (patchesOf es bytes)) ≡ lengths es
 unfolding total
 all-put [] bytes h = refl
 all-put (e ∷ es) bytes h =

@@ -10,7 +10,7 @@ use lib.Dec.{eqb, ltb}
 use lib.IntN.{pos, _-ℤ_}
 use lib.ListN.{length, getD, take, drop, length-drop}
 use lib.Seq.{length-take-le}
-use borrow.Author.Tests.{ltb-false, le-ltb, lt-ltb, eqb-true}
+use borrow.Author.Tests.{ltb-false, le-ltb, eq-eqb}
 use Rattle.refusal.specs.Answer.{Answer, gives, refused, Verdict, pass, _▷_, guard, writes}
 use Rattle.refusal.proofs.Laws.{never-refused, never-both}
 use Rattle.ump.specs.Word.{octets, Below}
@@ -21,17 +21,18 @@ use Rattle.ump.specs.Splice.{Spliced, rewritten}
 use Rattle.ump.specs.Edits.{Edit, Patch, patchAt, editsFor, Apart, replaced, allBytes, perEdit, editsOf, patchesOf, lengths, someBad, badList, someOverlap, allChecks, spliceAll}
 use Rattle.ump.specs.Holds.{Fewest}
 use Rattle.ump.specs.Worker.{Fits}
-use Rattle.ump.specs.Origin.{Origin, origin, octetFrom, Traced}
+use Rattle.ump.specs.Demand.{Whole}
+use Rattle.ump.specs.Origin.{Origin, originIn, origin, octetFrom, Traced}
 use Rattle.ump.proofs.Words.{below-take, below-drop}
 use Rattle.ump.proofs.Sizes.{words-mono}
 use Rattle.ump.proofs.Checks.{pass-both, or-left, or-right}
 use Rattle.ump.proofs.Splicing.{below-payload}
-use Rattle.ump.proofs.Replace.{endFrom, end-before, end-next}
+use Rattle.ump.proofs.Replace.{to-le, endFrom, end-before, end-next}
 use Rattle.ump.proofs.Done.{writes-given, guard-passed}
-use Rattle.ump.proofs.Demand.{same-message, rewritten-is-fewest}
+use Rattle.ump.proofs.Demand.{Dense, fits-small, same-message, rewritten-is-fewest}
 use Rattle.ump.proofs.Origins.{octet-front, below-replaced, rewritten-traced}
 use Rattle.ump.proofs.Asking.{asked-refused, asked-lent, Given, asked-given}
-use Rattle.edit.proofs.Apart.{apart, size-replaced}
+use Rattle.edit.proofs.Apart.{apart, all-put, size-replaced}
 use Rattle.edit.proofs.Lists.{same-bytes}
 
 -- ---- edits with their bytes end to end
@@ -147,8 +148,10 @@ module _ (s : Shape) (words : List ℕ) (len : ℕ) (numbers bytes : List ℕ) (
       record { ok = w .0; length-is = ap (λ (x : Spliced). x .length) (w .1); left-is = w .2 }
 
   -- the question for each octet lent is answered
-  pub answered : {q number place : ℕ} → q < 4 * length words → origin s words len numbers bytes q ≡ refused number place → ⊥
-  answered {q} h e = never-refused (sym e ∙ sym (asked-lent s words len numbers bytes q (is-done .ok) h))
+  pub answered : (q : ℕ) → q < 4 * length words
+      → origin s words len numbers bytes q
+      ≡ gives (originIn s (length (payloadOf s words len)) (editsOf numbers) (wordsFor s (length (replaced (payloadOf s words len) (patchesOf (editsOf numbers) bytes)))) len q)
+  answered q h = sym (asked-lent s words len numbers bytes q (is-done .ok) h)
 
   module _ (small : Below (s .limit) bytes) where
     pub all-fewest : Fewest s (groupAt s words 0) (idAt s words 0) (replaced (payloadOf s words len) (patchesOf (editsOf numbers) bytes)) (length words) left (change .length)
@@ -182,24 +185,48 @@ overlap-free begin (edit ∷ edits) bytes h =
     rw (le-ltb (edit .from) begin (h 0 (omega arith)))
     (overlap-free (edit .to) edits (drop (edit .length) bytes) (λ i k. rw (end-next patch rest i) at (h (suc i) (omega arith))))
 
--- a message and edits that demand 3 allows, lent as whole edits of at most 53,248 with their bytes
-pub all-accepted : (s : Shape) (words : List ℕ) (len : ℕ) (numbers bytes : List ℕ) → Fits s words len (patchesOf (editsOf numbers) bytes)
-    → badList (length (payloadOf s words len)) (length bytes) numbers ≡ false
-    → spliceAll s words len numbers bytes
-    ≡ (
-      gives (record {
-        length = wordsFor s (length (replaced (payloadOf s words len) (patchesOf (editsOf numbers) bytes)));
-        growth = pos (length (replaced (payloadOf s words len) (patchesOf (editsOf numbers) bytes))) -ℤ pos (length (payloadOf s words len));
-      }),
-      rewritten s words len (replaced (payloadOf s words len) (patchesOf (editsOf numbers) bytes)),
-    )
-unfolding spliceAll
-all-accepted s words len numbers bytes fits good =
-    let old : List ℕ = payloadOf s words len in
-    let patches : List Patch = patchesOf (editsOf numbers) bytes in
-    let clear : someOverlap 0 (editsOf numbers) ≡ false =
-    overlap-free 0 (editsOf numbers) bytes (λ i h. rw (end-before patches i) at (fits .apart .after i h))
-    in
-    let size : length (replaced old patches) ≤ length old + allBytes patches = omega (arith, size-replaced old patches (fits .apart)) in
-    let room : wordsFor s (length (replaced old patches)) ≤ length words = le-trans (words-mono s _ _ size) (fits .room) in
-    rw (fits .passes, good, clear, le-ltb (length words) (wordsFor s (length (replaced old patches))) room)
+none-bad : (n : ℕ) (edits : List Edit) (bytes : List ℕ) → n ≤ 53248 → lengths edits ≤ 53248
+    → ((i : ℕ) → i < length (patchesOf edits bytes)
+    → (patchAt (patchesOf edits bytes) i .from ≤ patchAt (patchesOf edits bytes) i .to) × (patchAt (patchesOf edits bytes) i .to ≤ n))
+    → someBad n edits ≡ false
+none-bad n [] bytes h l f = refl
+none-bad n (edit ∷ edits) bytes h l f =
+    let here : (edit .from ≤ edit .to) × (edit .to ≤ n) = f 0 (omega arith) in
+    let forward : edit .from ≤ edit .to = here .0 in
+    let inside : edit .to ≤ n = here .1 in
+    rw (le-ltb (edit .to) (edit .from) forward, le-ltb 53248 (edit .to) (omega arith), le-ltb 53248 (edit .length) (omega arith), le-ltb n (edit .to) inside)
+    (none-bad n edits (drop (edit .length) bytes) h (omega arith) (λ i k. f (suc i) (omega arith)))
+
+-- a message and edits that demand 3 allows, lent as whole edits with their bytes
+module _ {s : Shape} (dense : Dense s) (words : List ℕ) (len : ℕ) (numbers bytes : List ℕ) (fits : Fits s words len (patchesOf (editsOf numbers) bytes))
+    (whole : Whole numbers bytes) where
+  good-list : badList (length (payloadOf s words len)) (length bytes) numbers ≡ false
+  good-list =
+      let edits : List Edit = editsOf numbers in
+      let patches : List Patch = patchesOf edits bytes in
+      let old : List ℕ = payloadOf s words len in
+      let most : length old + allBytes patches ≤ 53248 = fits-small dense fits in
+      let put : allBytes patches ≡ lengths edits = all-put edits bytes (omega (arith, whole .sum)) in
+      let good : someBad (length old) edits ≡ false =
+      none-bad (length old) edits bytes (omega arith) (omega arith) (λ i h. (fits .apart .forward i h, to-le old patches (fits .apart) i h))
+      in
+      rw (eq-eqb (length numbers % perEdit) 0 (whole .edits), good, eq-eqb (length bytes) (lengths edits) (whole .sum))
+
+  pub all-accepted : spliceAll s words len numbers bytes
+      ≡ (
+        gives (record {
+          length = wordsFor s (length (replaced (payloadOf s words len) (patchesOf (editsOf numbers) bytes)));
+          growth = pos (length (replaced (payloadOf s words len) (patchesOf (editsOf numbers) bytes))) -ℤ pos (length (payloadOf s words len));
+        }),
+        rewritten s words len (replaced (payloadOf s words len) (patchesOf (editsOf numbers) bytes)),
+      )
+  unfolding spliceAll
+  all-accepted =
+      let old : List ℕ = payloadOf s words len in
+      let patches : List Patch = patchesOf (editsOf numbers) bytes in
+      let clear : someOverlap 0 (editsOf numbers) ≡ false =
+      overlap-free 0 (editsOf numbers) bytes (λ i h. rw (end-before patches i) at (fits .apart .after i h))
+      in
+      let size : length (replaced old patches) ≤ length old + allBytes patches = omega (arith, size-replaced old patches (fits .apart)) in
+      let room : wordsFor s (length (replaced old patches)) ≤ length words = le-trans (words-mono s _ _ size) (fits .room) in
+      rw (fits .passes, good-list, clear, le-ltb (length words) (wordsFor s (length (replaced old patches))) room)

@@ -9,13 +9,17 @@ use Rattle.refusal.specs.Answer.{Answer, gives, refused}
 use Rattle.refusal.proofs.Laws.{never-refused}
 use Rattle.ump.specs.Packet.{sysex8}
 use Rattle.ump.specs.Edits.{Edit, Range, moveEdit}
+use Rattle.ump.specs.Origin.{Origin, headerOctet, carried, dumpByte, editByte, filler, zeroed, untouched}
 use Rattle.ump.specs.Worker.{mapAnswer, over, Finishes, bytesOf, start}
 use Rattle.ump.specs.Demand.{Audited}
 use Rattle.ump.specs.Samples.{message5, patches8}
 use Rattle.ump.proofs.Demand3.{dense8, PlainAnswers}
 use Rattle.ump.proofs.NotEmpty.{fits8}
+use Rattle.splice.specs.declared.sysex8.Repacked.the-variants as repacked
 use Rattle.splice.specs.declared.sysex8.Spliced.the-variants as spliced
+use Rattle.edit.specs.Meaning.{originMeaning}
 use Rattle.edit.specs.declared.Moved.the-variants as moving
+use Rattle.edit.proofs.Once.{originBack}
 use Rattle.edit.proofs.Worker.{struct, Moves, family}
 use Rattle.edit.proofs.Audit as audit
 use Rattle.edit.proofs.Audit.{Promised}
@@ -28,7 +32,7 @@ lent list = record { ptr = (0, 0); name = 0; now = list }
 answers : PlainAnswers sysex8 (family .calls)
 answers =
     record {
-      can-splice = λ {words = words} {left} {len} {edit} {bytes} {change} e. record {
+      can-splice = λ {words = words} {left} {len} {edit} {bytes} {change} b e. record {
         lifetimes = ([], ([], tt));
         arguments = (lent words, (len, (edit .from, (edit .to, (lent bytes, tt)))));
         said = spliced.Done (record { length = change .length; growth = change .growth });
@@ -56,17 +60,56 @@ answers =
         }
     can done pending done-first (refused number place) e f = never-refused f
 
+-- each origin is the meaning of an answer
+origin-back : (o : Origin) → originMeaning (originBack (gives o)) ≡ gives o
+origin-back (headerOctet packet octet) = refl
+origin-back (carried (dumpByte byte)) = refl
+origin-back (carried (editByte edit byte)) = refl
+origin-back filler = refl
+origin-back zeroed = refl
+origin-back untouched = refl
+
 -- ---- each promise as an equation over plain values
 
 promised : Promised sysex8 family
 promised =
     record {
-      splices = λ s. let g = s .given in rw (g .0, g .1, g .2, g .3, g .4, s .left, s .answer-is) at (s .promise);
+      splices = λ b s. let g = s .given in rw (g .0, g .1, g .2, g .3, g .4, s .left, s .answer-is) at (s .promise);
       moves = λ {pending = pending} m. sym (m .answer-is) ∙ ap (mapAnswer (over pending)) (rw (m .given) at (m .promise));
       repacks = λ r. let g = r .given in rw (g .0, g .1, r .left, r .answer-is) at (r .promise);
-      at-once = λ a. let g = a .given in rw (g .0, g .1, g .2, g .3, a .left, a .answer-is) at (a .promise);
-      asks = λ a. let g = a .given in sym (a .answer-is) ∙ (rw (g .0, g .1, g .2, g .3, g .4) at (a .promise));
+      at-once = λ b a. let g = a .given in rw (g .0, g .1, g .2, g .3, a .left, a .answer-is) at (a .promise);
+      asks = λ b a. let g = a .given in sym (a .answer-is) ∙ (rw (g .0, g .1, g .2, g .3, g .4) at (a .promise));
       answers = answers;
+      can-repack = λ {words = words} {left} {len} {new} e. record {
+        lifetimes = ([], tt);
+        arguments = (lent words, (len, tt));
+        said = repacked.Words new;
+        exit = (lent left, (len, tt));
+        promise = sym e;
+        given = (refl, refl);
+        answer-is = refl;
+        left = refl;
+      };
+      can-at-once = λ {words = words} {left} {len} {numbers} {bytes} {change} b e. record {
+        lifetimes = ([], ([], ([], tt)));
+        arguments = (lent words, (len, (lent numbers, (lent bytes, tt))));
+        said = spliced.Done (record { length = change .length; growth = change .growth });
+        exit = (lent left, (len, (lent numbers, (lent bytes, tt))));
+        promise = sym e;
+        given = (refl, refl, refl, refl);
+        answer-is = refl;
+        left = refl;
+      };
+      can-ask = λ {words = words} {len} {numbers} {bytes} {q} {o} b e. record {
+        lifetimes = ([], ([], ([], tt)));
+        arguments = (lent words, (len, (lent numbers, (lent bytes, (q, tt)))));
+        said = originBack (gives o);
+        exit = (lent words, (len, (lent numbers, (lent bytes, (q, tt)))));
+        promise = origin-back o ∙ sym e;
+        given = (refl, refl, refl, refl, refl);
+        answer-is = origin-back o;
+        left = tt;
+      };
     }
 
 -- ---- the theorem

@@ -36,7 +36,7 @@ moved-back (moved.Refused fault) = ap moved.Refused (fault-back fault)
 pub moved-once : (x y : Moved) → movedMeaning x ≡ movedMeaning y → x ≡ y
 moved-once = once movedMeaning movedBack moved-back
 
-abbrev originBack : Answer Origin → OctetOrigin
+abbrev pub originBack : Answer Origin → OctetOrigin
 originBack (gives (headerOctet packet octet)) = origin.Header (record { packet = packet; octet = octet })
 originBack (gives (carried (dumpByte byte))) = origin.Dump byte
 originBack (gives (carried (editByte edit byte))) = origin.Edit (record { edit = edit; byte = byte })

@@ -59,7 +59,7 @@ lent list = record { ptr = (0, 0); name = 0; now = list }
 answers : PlainAnswers sysex8 (family .calls)
 answers =
     record {
-      can-splice = λ {words = words} {left} {len} {edit} {bytes} {change} e. record {
+      can-splice = λ {words = words} {left} {len} {edit} {bytes} {change} b e. record {
         lifetimes = ([], ([], tt));
         arguments = (lent words, (len, (edit .from, (edit .to, (lent bytes, tt)))));
         said = changeAnswer (gives change);
@@ -86,7 +86,7 @@ answers =
 promised : Promised sysex8 family
 promised =
     record {
-      splices = λ {words = words} {len = len} {edit = edit} {bytes = bytes} s.
+      splices = λ {words = words} {len = len} {edit = edit} {bytes = bytes} b s.
           let g = s .given in
           read-leaving changeAnswer changeRead (splice sysex8 words len (edit .from) (edit .to) bytes)
           (rw (g .0, g .1, g .2, g .3, g .4, s .left) at (s .promise)) (s .answer-is)
@@ -99,16 +99,46 @@ promised =
           let g = r .given in
           read-leaving numberAnswer numberRead (repack sysex8 words len) (rw (g .0, g .1, r .left) at (r .promise)) (r .answer-is)
           (number-read _ (repack-numbered sysex8 words len));
-      at-once = λ {words = words} {len = len} {numbers = numbers} {bytes = bytes} a.
+      at-once = λ {words = words} {len = len} {numbers = numbers} {bytes = bytes} b a.
           let g = a .given in
           read-leaving changeAnswer changeRead (spliceAll sysex8 words len numbers bytes)
           (rw (g .0, g .1, g .2, g .3, a .left) at (a .promise)) (a .answer-is) (change-read _ (all-numbered sysex8 words len numbers bytes));
-      asks = λ {words = words} {len} {numbers} {bytes} {q} a.
+      asks = λ {words = words} {len} {numbers} {bytes} {q} b a.
           let g = a .given in
           sym (a .answer-is)
           ∙ ap originRead (rw (g .0, g .1, g .2, g .3, g .4) at (a .promise))
           ∙ origin-read (origin sysex8 words len numbers bytes q) (origin-numbered sysex8 words len numbers bytes q);
       answers = answers;
+      can-repack = λ {words = words} {left} {len} {new} e. record {
+        lifetimes = ([], tt);
+        arguments = (lent words, (len, tt));
+        said = numberAnswer (gives new);
+        exit = (lent left, (len, tt));
+        promise = sym (ap (leaving numberAnswer) e);
+        given = (refl, refl);
+        answer-is = refl;
+        left = refl;
+      };
+      can-at-once = λ {words = words} {left} {len} {numbers} {bytes} {change} b e. record {
+        lifetimes = ([], ([], ([], tt)));
+        arguments = (lent words, (len, (lent numbers, (lent bytes, tt))));
+        said = changeAnswer (gives change);
+        exit = (lent left, (len, (lent numbers, (lent bytes, tt))));
+        promise = sym (ap (leaving changeAnswer) e);
+        given = (refl, refl, refl, refl);
+        answer-is = refl;
+        left = refl;
+      };
+      can-ask = λ {words = words} {len} {numbers} {bytes} {q} {o} b e. record {
+        lifetimes = ([], ([], ([], tt)));
+        arguments = (lent words, (len, (lent numbers, (lent bytes, (q, tt)))));
+        said = originAnswer (gives o);
+        exit = (lent words, (len, (lent numbers, (lent bytes, (q, tt)))));
+        promise = sym (ap originAnswer e);
+        given = (refl, refl, refl, refl, refl);
+        answer-is = origin-read (gives o) accepted;
+        left = tt;
+      };
     }
 
 -- ---- the theorem

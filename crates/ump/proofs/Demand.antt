@@ -16,7 +16,7 @@ use Rattle.ump.specs.Check.{check, payloadOf}
 use Rattle.ump.specs.Splice.{rewritten, Spliced, splice}
 use Rattle.ump.specs.Edits.{Edit, Patch, patchAt, editAt, replaced, Order}
 use Rattle.ump.specs.Holds.{Holds, Fewest}
-use Rattle.ump.specs.Worker.{Calls, Held, End, finished, stopped, Works, Finishes, Fits, bytesOf, start, Each, Placed, reached}
+use Rattle.ump.specs.Worker.{Calls, Held, End, finished, stopped, Works, rests, Finishes, Fits, bytesOf, start, Each, Placed, reached}
 use Rattle.ump.proofs.Meets.{View, Meets, Answers, mostBytes, plain, movedEdit, Begins}
 use Rattle.ump.proofs.Sizes.{packets-enough}
 use Rattle.ump.proofs.Checks.{passes-valid}
@@ -38,6 +38,10 @@ most-small s dense n size w l =
     let bytes : n ≤ s .room * k = packets-enough s n in
     let more : 4 * s .room * k ≤ 13 * s .words * k = mul-le-mul-right k dense in
     omega (arith, mul-assoc 4 (s .room) k, mul-assoc 13 (s .words) k)
+
+-- so there are never more on the way
+pub fits-small : {s : Shape} → Dense s → {words : List ℕ} {len : ℕ} {patches : List Patch} → Fits s words len patches → mostBytes s words len patches ≤ 53248
+fits-small {s} dense {words} {len} fits = most-small s dense _ (length words) (fits .room) (passes-valid s words len (fits .passes) .short-enough)
 
 -- two messages that are the fewest-packet form of the same bytes, with one group and id: the same length and the same words. (Words
 -- past the message may differ.)
@@ -81,7 +85,7 @@ module _ {Lent Record : Type 0} {s : Shape} (dense : Dense s) {view : View Lent 
   payload = payloadOf s words (held .length)
 
   small : mostBytes s words (held .length) patches ≤ 53248
-  small = most-small s dense _ (length words) (fits .room) (passes-valid s words (held .length) (fits .passes) .short-enough)
+  small = fits-small dense fits
 
   abbrev HasNow : List ℕ → Lent → ℕ → Type 0
   HasNow = Has s view calls group id payload (length words) patches (fits .apart) (fits .bytes) (fits .room) small meets
@@ -121,14 +125,16 @@ module _ {Lent Record : Type 0} {s : Shape} (dense : Dense s) {view : View Lent 
   has [] (o, l) w = absurd (omega (arith, fits .some))
   has (i ∷ order) (o, l) {left} {len} w = ends i order o (finished left len) w
 
-  -- 2. The message at the end is the fewest-packet form of the payload with all ranges replaced at once, and what stands beside it is right.
+  -- 2. The message at the end is the fewest-packet form of the payload with all ranges replaced at once.
   pub result : (order : List ℕ) → Each patches order → {left : Lent} {len : ℕ} → Works calls (bytesOf patches) held order (finished left len)
       → Fewest s (groupAt s words 0) (idAt s words 0) (replaced (payloadOf s words (held .length)) patches) (length words) (view .wordsOf left) len
   result order each w = rw (mixed-order payload patches (fits .apart) order (each .0) (each .1)) at (has order each w .fewest)
 
-  pub result-beside : (order : List ℕ) → Each patches order → {left : Lent} {len : ℕ} → Works calls (bytesOf patches) held order (finished left len)
+  -- What stands beside the words is right at the end, also where some of the edits alone are done.
+  pub result-beside : (order : List ℕ) → Order (length patches) order → {left : Lent} {len : ℕ} → Works calls (bytesOf patches) held order (finished left len)
       → view .Beside left len
-  result-beside order each w = has order each w .beside
+  result-beside [] o rests = begins .beside
+  result-beside (i ∷ order) o {left} {len} w = ends i order o (finished left len) w .beside
 
   -- 3. In each order, of all the edits or of some, there is a worker that finishes, if the calls have an outcome where the definitions give one.
   pub finishes : Answers s (mostBytes s words (held .length) patches) view calls → (order : List ℕ) → Order (length patches) order

@@ -7,6 +7,7 @@ use Prim.Native.Nat.{ℕ}
 use lib.Dec.{lit≤}
 use lib.ListN.{length, take}
 use Rattle.refusal.specs.Answer.{Answer, gives}
+use Rattle.ump.specs.Word.{Below}
 use Rattle.ump.specs.Packet.{Shape, sysex8, sysex7, groupAt, idAt}
 use Rattle.ump.specs.Check.{payloadOf}
 use Rattle.ump.specs.Splice.{Spliced, splice}
@@ -50,10 +51,10 @@ two-workers {patches = patches} d d′ g i p {order} {order′} e e′ w w′ =
 
 -- ---- calls on words alone, with edits that know no size
 
--- where the definitions accept, each outcome of the two calls is theirs
+-- of bytes of the shape, where the definitions accept, each outcome of the two calls is theirs
 pub record PlainMeets (s : Shape) (calls : Calls (List ℕ) Edit) : Type 0 where
   pub splices : {words left : List ℕ} {len : ℕ} {edit : Edit} {bytes : List ℕ} {answer : Answer Spliced} {change : Spliced} {after : List ℕ}
-      → splice s words len (edit .from) (edit .to) bytes ≡ (gives change, after) → calls .Splices words len edit bytes answer left
+      → Below (s .limit) bytes → splice s words len (edit .from) (edit .to) bytes ≡ (gives change, after) → calls .Splices words len edit bytes answer left
       → _≡_ {A = Answer Spliced × List ℕ} (answer, left) (gives change, after)
   pub moves : {done pending edit : Edit} {done-first : Bool} {answer : Answer Edit}
       → movedEdit done pending done-first ≡ gives edit → calls .Moves done pending done-first answer → answer ≡ gives edit
@@ -61,7 +62,7 @@ pub record PlainMeets (s : Shape) (calls : Calls (List ℕ) Edit) : Type 0 where
 -- and there is one
 pub record PlainAnswers (s : Shape) (calls : Calls (List ℕ) Edit) : Type 0 where
   pub can-splice : {words left : List ℕ} {len : ℕ} {edit : Edit} {bytes : List ℕ} {change : Spliced}
-      → splice s words len (edit .from) (edit .to) bytes ≡ (gives change, left) → calls .Splices words len edit bytes (gives change) left
+      → Below (s .limit) bytes → splice s words len (edit .from) (edit .to) bytes ≡ (gives change, left) → calls .Splices words len edit bytes (gives change) left
   pub can-move : {done pending edit : Edit} {done-first : Bool} → movedEdit done pending done-first ≡ gives edit → calls .Moves done pending done-first (gives edit)
 
 pub plain-demand3 : {s : Shape} → Dense s → {calls : Calls (List ℕ) Edit} → PlainMeets s calls → PlainAnswers s calls
@@ -73,18 +74,18 @@ plain-demand3 {s} dense {calls} meets answers fits = demand3 dense {view = plain
     met =
         record {
           splices = λ b c r e call. record {
-            answer-is = ap (λ (o : Answer Spliced × List ℕ). o .0) (meets .splices e call);
-            words-are = ap (λ (o : Answer Spliced × List ℕ). o .1) (meets .splices e call);
+            answer-is = ap (λ (o : Answer Spliced × List ℕ). o .0) (meets .splices (r .small) e call);
+            words-are = ap (λ (o : Answer Spliced × List ℕ). o .1) (meets .splices (r .small) e call);
             beside = tt;
           };
-          moves = λ c d i j e call. record { moved = _; answer-is = meets .moves e call; edit-is = refl; cut = tt };
+          moves = λ c d i j m n e call. record { moved = _; answer-is = meets .moves e call; edit-is = refl; cut = tt };
         }
 
     answered : {most : ℕ} → Answers s most plain calls
     answered =
         record {
-          can-splice = λ b c r e. record { left = _; call = answers .can-splice e };
-          can-move = λ c d i j e. record { edit = _; call = answers .can-move e };
+          can-splice = λ b c r e. record { left = _; call = answers .can-splice (r .small) e };
+          can-move = λ c d i j m n e. record { edit = _; call = answers .can-move e };
         }
 
 -- ---- calls that promise just the definitions, for any shape
@@ -99,7 +100,7 @@ defined s =
 pub defined-demand3 : {s : Shape} → Dense s → {words : List ℕ} {len : ℕ} {patches : List Patch} → Fits s words len patches
     → Demand3 s (λ words. words) (λ edit. edit) (defined s) patches (start words len patches)
 defined-demand3 dense =
-    plain-demand3 dense (record { splices = λ e call. call ∙ e; moves = λ e call. call ∙ e }) (record { can-splice = λ e. sym e; can-move = λ e. sym e })
+    plain-demand3 dense (record { splices = λ b e call. call ∙ e; moves = λ e call. call ∙ e }) (record { can-splice = λ b e. sym e; can-move = λ e. sym e })
 
 pub dense8 : Dense sysex8
 dense8 = lit≤ tt

@@ -356,6 +356,7 @@ module _ (s : Shape) (words : List ℕ) (len : ℕ) (patches : List Patch) (most
   traced =
       record {
         lent = fewest .holds .buffer;
+        needed = fewest .length-is;
         octet = λ q h. octet-lent q;
         within = λ q source h e. within s (length old) patches apart source q (rw words-is at h) (sym (origin-by s (length old) patches q) ∙ e);
         once = λ source w. counted (isFrom source) ∙ go source w;

@@ -123,6 +123,7 @@ module _ {Lent Record : Type 0} (s : Shape) (view : View Lent Record) (calls : C
         (record {
           small = bn i (at .each .0);
           whole = refl;
+          fitted = rw (at .holds .carries) (length-mixed p es a ds);
           fits = rw (at .holds .carries, stepped) (length-mixed p es a (i ∷ ds));
         })
 
@@ -178,10 +179,15 @@ module _ {Lent Record : Type 0} (s : Shape) (view : View Lent Record) (calls : C
           rw (is-i, moved-past-is (editNow es ds i) (length (mixed p es ds)) forward (omega arith), ← stepped)
           (omega (arith, length-spliced (mixed p es ds) from to (patchAt es i .bytes) forward inside))
 
+      size-fits : movedPast (view .editOf (held .edit i)) (length (mixed p es ds)) ≤ length p + allBytes es
+      size-fits = rw size-moves (length-mixed p es a (i ∷ ds))
+
       went : (answer : Answer Record) → calls .Moves (held .edit i) (held .edit k) (ltb i k) answer
           → Gives (λ edit. (view .editOf edit ≡ editNow es (i ∷ ds) k) × (view .CutFrom (length (mixed p es (i ∷ ds))) edit)) answer
       went answer c =
-          let o = meets .moves (at .cut i (elem-same i order)) (at .cut k later) (inside i (elem-same i order)) (inside k later) moves-to c in
+          let o = meets .moves (at .cut i (elem-same i order)) (at .cut k later) (inside i (elem-same i order)) (inside k later)
+          (length-mixed p es a ds) size-fits moves-to c
+          in
           rw (o .answer-is) (o .edit-is, rw size-moves at (o .cut))
 
     next : (left : Lent) (len : ℕ) (edit : ℕ → Record) → Has (i ∷ ds) left len
@@ -274,7 +280,8 @@ module _ {Lent Record : Type 0} (s : Shape) (view : View Lent Record) (calls : C
         in
         let can : (k : ℕ) → elem k order ≡ true → CanMove calls (held .edit i) (held .edit k) (ltb i k) =
         λ k e. answers .can-move (at .cut i (elem-same i order)) (at .cut k (later ds i order held at k e))
-        (inside ds i order held at i (elem-same i order)) (inside ds i order held at k (later ds i order held at k e)) (moves-to ds i order held at k e)
+        (inside ds i order held at i (elem-same i order)) (inside ds i order held at k (later ds i order held at k e))
+        (length-mixed p es a ds) (size-fits ds i order held at k e) (moves-to ds i order held at k e)
         in
         let to : ℕ → Record = λ k. choose (elem k order) refl (held .edit k) (λ e. can k e .edit) in
         let m : (k : ℕ) → elem k order ≡ true → calls .Moves (held .edit i) (held .edit k) (ltb i k) (gives (to k)) =

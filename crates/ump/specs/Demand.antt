@@ -1,20 +1,20 @@
--- What demand 3 says of a worker that begins with a message and edits of it, by whatever calls; and what an auditor asks of all calls
--- that edit a message.
+-- What demand 3 says of a worker that begins with a message and edits of it, by whatever calls; and what an auditor asks of the calls that
+-- edit a payload by ranges, and of the one that answers where an octet comes from.
 -- Assumes nothing.
 use mathlib.Core.Path.{_≡_}
-use mathlib.Core.Bool.{false}
 use mathlib.Core.List.{List, [], _∷_}
-use Prim.Native.Nat.{ℕ, _*_, _<_}
+use Prim.Native.Nat.{ℕ, _*_, _%_, _<_}
 use lib.ListN.{length, getD, take}
-use Rattle.refusal.specs.Answer.{Answer, gives, refused}
+use Rattle.refusal.specs.Answer.{Answer, gives, refused, pass}
 use Rattle.ump.specs.Word.{octets, Below}
 use Rattle.ump.specs.Packet.{Shape, groupAt, idAt}
-use Rattle.ump.specs.Check.{payloadOf}
+use Rattle.ump.specs.Packing.{wordsFor}
+use Rattle.ump.specs.Check.{check, payloadOf}
 use Rattle.ump.specs.Splice.{Spliced}
-use Rattle.ump.specs.Edits.{Edit, Patch, replaced, editsOf, patchesOf, badList, Order}
+use Rattle.ump.specs.Edits.{Edit, Patch, replaced, perEdit, editsOf, patchesOf, lengths, Order}
 use Rattle.ump.specs.Holds.{Fewest}
 use Rattle.ump.specs.Worker.{Calls, Held, End, finished, stopped, Works, Finishes, Fits, bytesOf, start, Each, Placed, reached}
-use Rattle.ump.specs.Origin.{Origin, octetFrom, Traced}
+use Rattle.ump.specs.Origin.{Origin, originIn, octetFrom, Traced}
 
 -- ---- demand 3
 
@@ -37,7 +37,7 @@ pub record Demand3 {Lent Record : Type 0} (shape : Shape) (wordsOf : Lent → Li
   pub origins : (order : List ℕ) → Each patches order → {left : Lent} {size : ℕ} → (w : Works calls (bytesOf patches) held order (finished left size))
       → Traced shape (wordsOf (held .lent)) (held .length) patches (reached w) (wordsOf left) size
 
--- ---- all calls that edit a message
+-- ---- the calls of an audit
 
 -- by the outcomes that they allow: a splice and a move; packing; all edits of a list at once; where an octet comes from
 pub record Family : Type 1 where
@@ -45,6 +45,18 @@ pub record Family : Type 1 where
   pub Repacks : List ℕ → ℕ → Answer ℕ → List ℕ → Type 0
   pub SplicesAll : List ℕ → ℕ → List ℕ → List ℕ → Answer Spliced → List ℕ → Type 0
   pub Asks : List ℕ → ℕ → List ℕ → List ℕ → ℕ → Answer Origin → Type 0
+
+-- a call that has an outcome which is accepted, and none that is refused
+pub record Accepts {A B : Type 0} (Call : Answer A → B → Type 0) : Type 0 where
+  pub value : A
+  pub left : B
+  pub call : Call (gives value) left
+  pub no-refusal : {number place : ℕ} {left : B} → Call (refused number place) left → ⊥
+
+-- numbers that are whole edits, and as many bytes as they replace
+pub record Whole (numbers bytes : List ℕ) : Type 0 where
+  pub edits : length numbers % perEdit ≡ 0
+  pub sum : length bytes ≡ lengths (editsOf numbers)
 
 pub record Audited (shape : Shape) (family : Family) : Type 0 where
   -- Demand 3 holds of each message and edits that it allows.
@@ -66,10 +78,10 @@ pub record Audited (shape : Shape) (family : Family) : Type 0 where
       → {left-other : List ℕ} {size : ℕ}
       → Works (family .calls) (bytesOf (patchesOf (editsOf numbers) bytes)) (start words len (patchesOf (editsOf numbers) bytes)) order (finished left-other size)
       → (change .length ≡ size) × (take (change .length) left ≡ take size left-other)
-  -- Of edits that demand 3 allows, lent as whole edits with their bytes, none is refused at once.
-  pub at-once-accepted : {words : List ℕ} {len : ℕ} {numbers bytes : List ℕ} {number place : ℕ} {left : List ℕ}
-      → Fits shape words len (patchesOf (editsOf numbers) bytes) → badList (length (payloadOf shape words len)) (length bytes) numbers ≡ false
-      → family .SplicesAll words len numbers bytes (refused number place) left → ⊥
+  -- Edits that demand 3 allows, lent as whole edits with their bytes, are accepted at once; and a message that passes the check is packed.
+  pub at-once-accepted : {words : List ℕ} {len : ℕ} {numbers bytes : List ℕ} → Whole numbers bytes → Below (shape .limit) bytes
+      → Fits shape words len (patchesOf (editsOf numbers) bytes) → Accepts (family .SplicesAll words len numbers bytes)
+  pub repack-accepted : {words : List ℕ} {len : ℕ} → check shape words len ≡ pass → Accepts (family .Repacks words len)
   -- Where each octet of the words lent comes from after packing, which is a list of no edits;
   pub repack-traced : {words : List ℕ} {len new : ℕ} {left : List ℕ} → family .Repacks words len (gives new) left → Traced shape words len [] len left new
   -- after a splice, a list of one;
@@ -80,7 +92,12 @@ pub record Audited (shape : Shape) (family : Family) : Type 0 where
   pub at-once-traced : {words : List ℕ} {len : ℕ} {numbers bytes : List ℕ} {change : Spliced} {left : List ℕ}
       → family .SplicesAll words len numbers bytes (gives change) left → Below (shape .limit) bytes
       → Traced shape words len (patchesOf (editsOf numbers) bytes) len left (change .length)
-  -- What is answered of an octet says what it is: anywhere in the words lent, where all edits were done at once;
+  -- What is answered of an octet is its origin after all edits at once;
+  pub told : {words : List ℕ} {len : ℕ} {numbers bytes : List ℕ} {q : ℕ} {o : Origin} → family .Asks words len numbers bytes q (gives o)
+      → Below (shape .limit) bytes
+      → o ≡ originIn shape (length (payloadOf shape words len)) (editsOf numbers)
+      (wordsFor shape (length (replaced (payloadOf shape words len) (patchesOf (editsOf numbers) bytes)))) len q
+  -- so it says what the octet is, anywhere in the words lent, where they were done at once;
   pub told-at-once : {words : List ℕ} {len : ℕ} {numbers bytes : List ℕ} {q : ℕ} {o : Origin} → family .Asks words len numbers bytes q (gives o)
       → Below (shape .limit) bytes → {change : Spliced} {left : List ℕ} → family .SplicesAll words len numbers bytes (gives change) left
       → getD (octets left) q 0 ≡ octetFrom shape words len (patchesOf (editsOf numbers) bytes) q o
@@ -90,10 +107,10 @@ pub record Audited (shape : Shape) (family : Family) : Type 0 where
       → (order : List ℕ) → Each (patchesOf (editsOf numbers) bytes) order → {left : List ℕ} {size : ℕ}
       → Works (family .calls) (bytesOf (patchesOf (editsOf numbers) bytes)) (start words len (patchesOf (editsOf numbers) bytes)) order (finished left size)
       → q < 4 * size → getD (octets left) q 0 ≡ octetFrom shape words len (patchesOf (editsOf numbers) bytes) q o
-  -- It is refused for no octet lent where all edits are done at once, and as they are where they are refused.
-  pub asked-answered : {words : List ℕ} {len : ℕ} {numbers bytes : List ℕ} {q : ℕ} {change : Spliced} {left : List ℕ}
-      → family .SplicesAll words len numbers bytes (gives change) left → q < 4 * length words
-      → {number place : ℕ} → family .Asks words len numbers bytes q (refused number place) → ⊥
-  pub asked-refused : {words : List ℕ} {len : ℕ} {numbers bytes : List ℕ} {q : ℕ} {number place : ℕ} {left : List ℕ}
-      → family .SplicesAll words len numbers bytes (refused number place) left
-      → {answer : Answer Origin} → family .Asks words len numbers bytes q answer → answer ≡ refused number place
+  -- It is answered for each octet lent where all edits are done at once, and refused as they are where they are refused.
+  pub asked-accepted : {words : List ℕ} {len : ℕ} {numbers bytes : List ℕ} {change : Spliced} {left : List ℕ}
+      → family .SplicesAll words len numbers bytes (gives change) left → Below (shape .limit) bytes → {q : ℕ} → q < 4 * length words
+      → Accepts (λ (answer : Answer Origin) (left : Unit {0}). family .Asks words len numbers bytes q answer)
+  pub asked-refused : {words : List ℕ} {len : ℕ} {numbers bytes : List ℕ} {number place : ℕ} {left : List ℕ}
+      → family .SplicesAll words len numbers bytes (refused number place) left → Below (shape .limit) bytes
+      → {q : ℕ} {answer : Answer Origin} → family .Asks words len numbers bytes q answer → answer ≡ refused number place

@@ -8,7 +8,7 @@ use Rattle.ump.specs.Packet.{Shape, groupAt, idAt}
 use Rattle.ump.specs.Packing.{wordsFor, pack}
 use Rattle.ump.specs.Check.{Valid, payloadOf}
 
--- the first len of the words lent hold a valid message of this group and id that carries these bytes
+-- of so many words lent the first len hold a valid message of this group and id that carries these bytes
 pub record Holds (shape : Shape) (group : ℕ) (id bytes : List ℕ) (lent : ℕ) (words : List ℕ) (len : ℕ) : Type 0 where
   pub valid : Valid shape words len
   pub group-is : groupAt shape words 0 ≡ group

@@ -23,7 +23,7 @@ pub data Origin : Type 0 where
   headerOctet : ℕ → ℕ → Origin  -- of this packet, this octet of its header
   carried : Source → Origin
   filler : Origin  -- unused, in the last packet
-  zeroed : Origin  -- behind the message, where a longer one stood
+  zeroed : Origin  -- behind the message, where a longer one stood before
   untouched : Origin  -- behind every message that stood there
 
 -- where a run begins; past the result stands filler
@@ -40,12 +40,13 @@ originOf shape n edits q =
     let j = q % (4 * shape .words) in
     cond (ltb j (header shape)) (headerOctet p j) (beginning (runAt n edits (shape .room * p + (j - header shape))))
 
--- octet q of the words lent, where the message has len words at the end, and the longest that stood there had `most`
+-- octet q of the words lent, where the message has len words at the end, and the longest that stood there before had `most`
 unfoldable pub originIn : Shape → ℕ → List Edit → ℕ → ℕ → ℕ → Origin
 originIn shape n edits len most q =
     cond (ltb q (4 * len)) (originOf shape n edits q) (cond (ltb q (4 * most)) zeroed untouched)
 
--- ---- the question as a call: message, edits and bytes as for all edits at once, refused as that is, and an octet's index
+-- ---- the question as a call: message, edits and bytes as for all edits at once, and an octet's index; refused as they are, then Range for
+-- an octet that is not lent
 
 unfoldable pub origin : Shape → List ℕ → ℕ → List ℕ → List ℕ → ℕ → Answer Origin
 origin shape words len numbers bytes q =
@@ -121,10 +122,11 @@ Within n patches (dumpByte i) = (i < n) × ((k : ℕ) → k < length patches →
 Within n patches (editByte k j) = (k < length patches) × (j < length (patchAt patches k .bytes))
 
 -- Words held a message of len words before the patches, and are now `left`, with the patches done and a message of `new` words; the
--- longest on the way had `most`. Each octet lent is what its origin says. In the message, one that is neither header nor filler comes
+-- longest before that had `most`. Each octet lent is what its origin says. In the message, one that is neither header nor filler comes
 -- from a byte of the result; each such byte has exactly one octet; and so many are header and filler.
 pub record Traced (shape : Shape) (words : List ℕ) (len : ℕ) (patches : List Patch) (most : ℕ) (left : List ℕ) (new : ℕ) : Type 0 where
   pub lent : length left ≡ length words
+  pub needed : new ≡ wordsFor shape (length (replaced (payloadOf shape words len) patches))
   pub octet : (q : ℕ) → q < 4 * length words
       → getD (octets left) q 0
       ≡ octetFrom shape words len patches q (originIn shape (length (payloadOf shape words len)) (editsFor patches) new most q)

@@ -1,5 +1,5 @@
 -- A worker that does the edits of a list one after the other by two calls, with any outcome that the calls allow. It is over the
--- calls: those of the code, the exported ones, ones with a table beside the words, ones whose edits know a size.
+-- calls, what they are lent and the edits that they take, so that it serves more than one pair of them.
 -- Assumes nothing.
 use mathlib.Core.Path.{_≡_}
 use mathlib.Core.Bool.{Bool, true}
@@ -102,7 +102,7 @@ pub record InPlace (patches : List Patch) (done : List ℕ) (i : ℕ) (edit : Ed
   pub from : pos (edit .from) ≡ pos (patchAt patches i .from) +ℤ grown patches done i
   pub to : pos (edit .to) ≡ pos (patchAt patches i .to) +ℤ grown patches done i
 
--- each edit that a worker splices stands so
+-- each edit that a worker splices, or tries to, stands so
 abbrev pub Placed : {Lent Record : Type 0} {calls : Calls Lent Record} {bytes : ℕ → List ℕ} {held : Held Lent Record} {order : List ℕ} {end : End Lent}
     → (Record → Edit) → List Patch → List ℕ → Works calls bytes held order end → Type 0
 Placed editOf patches done rests = Unit {0}

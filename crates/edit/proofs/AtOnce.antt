@@ -1,7 +1,7 @@
 -- All edits of a list at once: what is known where they are done, that they are not refused where they can be done one after the other,
 -- and which octet comes from where. For any shape, over the definitions. Assumes nothing.
 use mathlib.Core.Path.{_≡_, refl, sym, ap, ap₂, _∙_}
-use mathlib.Core.Bool.{Bool, true, false, not, _||_}
+use mathlib.Core.Bool.{false, not, _||_}
 use mathlib.Core.List.{List, [], _∷_}
 use Prim.Native.Nat.{ℕ, zero, suc, _+_, _*_, _%_, _/_, _≤_, _<_}
 use native.Mathlib.Nat.{le-trans}
@@ -12,13 +12,13 @@ use lib.ListN.{length, getD, take, drop, length-drop}
 use lib.Seq.{length-take-le}
 use borrow.Author.Tests.{ltb-false, le-ltb, eq-eqb}
 use Rattle.refusal.specs.Answer.{Answer, gives, refused, Verdict, pass, _▷_, guard, writes}
-use Rattle.refusal.proofs.Laws.{never-refused, never-both}
+use Rattle.refusal.proofs.Laws.{never-refused}
 use Rattle.ump.specs.Word.{octets, Below}
 use Rattle.ump.specs.Packet.{Shape, groupAt, idAt}
 use Rattle.ump.specs.Packing.{wordsFor}
 use Rattle.ump.specs.Check.{check, payloadOf}
 use Rattle.ump.specs.Splice.{Spliced, rewritten}
-use Rattle.ump.specs.Edits.{Edit, Patch, patchAt, editsFor, Apart, replaced, allBytes, perEdit, editsOf, patchesOf, lengths, someBad, badList, someOverlap, allChecks, spliceAll}
+use Rattle.ump.specs.Edits.{Edit, Patch, patchAt, editsFor, replaced, allBytes, perEdit, editsOf, patchesOf, lengths, someBad, badList, someOverlap, allChecks, spliceAll}
 use Rattle.ump.specs.Holds.{Fewest}
 use Rattle.ump.specs.Worker.{Fits}
 use Rattle.ump.specs.Demand.{Whole}

@@ -2,13 +2,11 @@
 use mathlib.Core.Path.{_≡_, refl, sym, ap, _∙_}
 use mathlib.Core.Bool.{Bool}
 use mathlib.Core.List.{List}
-use Prim.Native.Nat.{ℕ, _*_, _<_}
-use lib.ListN.{length}
-use Rattle.refusal.specs.Answer.{Answer, gives, refused, pass}
+use Prim.Native.Nat.{ℕ}
+use Rattle.refusal.specs.Answer.{Answer, gives}
 use Rattle.refusal.proofs.Laws.{never-refused}
 use Rattle.ump.specs.Word.{Below}
 use Rattle.ump.specs.Packet.{Shape}
-use Rattle.ump.specs.Check.{check}
 use Rattle.ump.specs.Splice.{Spliced, splice, repack}
 use Rattle.ump.specs.Edits.{Edit, Patch, spliceAll}
 use Rattle.ump.specs.Origin.{Origin, origin}

@@ -9,7 +9,7 @@ use borrow.Author.Tests.{ne-eqb}
 use Rattle.refusal.specs.Answer.{Answer, gives, refused}
 use Rattle.ump.specs.Packet.{sysex8}
 use Rattle.ump.specs.Splice.{Spliced, splice, repack}
-use Rattle.ump.specs.Edits.{Edit, Range, moveEdit, spliceAll}
+use Rattle.ump.specs.Edits.{Range, moveEdit, spliceAll}
 use Rattle.ump.specs.Worker.{mapAnswer, over, Finishes, bytesOf, start}
 use Rattle.ump.specs.Demand.{Audited}
 use Rattle.ump.specs.Origin.{Origin, headerOctet, carried, dumpByte, editByte, filler, zeroed, untouched, origin}

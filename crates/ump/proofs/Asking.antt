@@ -1,12 +1,12 @@
 -- The origin of an octet as a call, case by case: refused as all edits are, past the words lent, or answered. Assumes nothing.
-use mathlib.Core.Path.{_≡_, refl, sym, ap, _∙_}
+use mathlib.Core.Path.{_≡_, refl}
 use mathlib.Core.Bool.{Bool, true, false, not}
 use mathlib.Core.List.{List}
 use Prim.Native.Nat.{ℕ, _*_, _≤_, _<_}
 use lib.Dec.{ltb}
 use lib.ListN.{length}
 use borrow.Author.Tests.{lt-ltb, le-ltb, ltb-true}
-use Rattle.refusal.specs.Answer.{Answer, gives, refused, Verdict, pass, _▷_, guard}
+use Rattle.refusal.specs.Answer.{gives, refused, Verdict, pass, _▷_, guard}
 use Rattle.refusal.proofs.Laws.{never-refused}
 use Rattle.ump.specs.Packet.{Shape}
 use Rattle.ump.specs.Packing.{wordsFor}

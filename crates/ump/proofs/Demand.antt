@@ -1,23 +1,21 @@
 -- Demand 3 over a shape and over any two calls that meet the definitions: whoever does edits one after the other, in any order and
 -- with any outcome that the calls allow, meets no refusal and comes to one message. Assumes nothing.
 use mathlib.Core.Path.{_≡_, refl, sym, ap, _∙_}
-use mathlib.Core.Bool.{Bool}
 use mathlib.Core.List.{List, [], _∷_}
 use Prim.Native.Nat.{ℕ, _-_, _*_, _≤_}
 use native.Mathlib.Nat.{mul-assoc, mul-le-mul-right}
 use native.Mathlib.Omega.{arith}
 use lib.ListN.{length, take}
-use Rattle.refusal.specs.Answer.{Answer, gives, pass}
+use Rattle.refusal.specs.Answer.{pass}
 use Rattle.ump.specs.Word.{Below}
-use lib.Dec.{lit≤}
-use Rattle.ump.specs.Packet.{Shape, sysex8, sysex7, groupAt, idAt}
+use Rattle.ump.specs.Packet.{Shape, groupAt, idAt}
 use Rattle.ump.specs.Packing.{wordsFor, packetsFor, pack}
 use Rattle.ump.specs.Check.{check, payloadOf}
-use Rattle.ump.specs.Splice.{rewritten, Spliced, splice}
-use Rattle.ump.specs.Edits.{Edit, Patch, patchAt, editAt, replaced, Order}
+use Rattle.ump.specs.Splice.{rewritten}
+use Rattle.ump.specs.Edits.{Patch, patchAt, editAt, replaced, Order}
 use Rattle.ump.specs.Holds.{Holds, Fewest}
-use Rattle.ump.specs.Worker.{Calls, Held, End, finished, stopped, Works, rests, Finishes, Fits, bytesOf, start, Each, Placed, reached}
-use Rattle.ump.proofs.Meets.{View, Meets, Answers, mostBytes, plain, movedEdit, Begins}
+use Rattle.ump.specs.Worker.{Calls, Held, End, finished, stopped, Works, rests, Finishes, Fits, bytesOf, Each, Placed, reached}
+use Rattle.ump.proofs.Meets.{View, Meets, Answers, mostBytes, Begins}
 use Rattle.ump.proofs.Sizes.{packets-enough}
 use Rattle.ump.proofs.Checks.{passes-valid}
 use Rattle.ump.proofs.Replace.{mixed-none, mixed-order, after}

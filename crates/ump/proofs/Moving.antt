@@ -1,18 +1,18 @@
 -- Moving the pending edits one by one past each edit that is done gives the ranges of `moved`, and is never refused. Assumes nothing.
 use mathlib.Core.Path.{_≡_, refl, sym, subst}
-use mathlib.Core.Bool.{Bool, true, false, cond, _||_}
+use mathlib.Core.Bool.{true, false, cond}
 use mathlib.Core.Logic.{_≢_}
 use mathlib.Core.List.{List, [], _∷_}
 use Prim.Native.Nat.{ℕ, zero, suc, _+_, _-_, _≤_, _<_}
 use native.Mathlib.Omega.{arith}
-use lib.Dec.{eqb, ltb}
+use lib.Dec.{ltb}
 use lib.ListN.{length, length-append}
-use borrow.Author.Tests.{le-ltb, eqb-false}
+use borrow.Author.Tests.{le-ltb}
 use Rattle.refusal.specs.Answer.{gives}
 use Rattle.ump.specs.Packet.{joined}
 use Rattle.ump.specs.Edits.{Edit, Range, Patch, patchAt, Apart, elem, total, allBytes, badEdit, movedPast, moveEdit}
 use Rattle.ump.proofs.Joined.{joined-add}
-use Rattle.ump.proofs.First.{is-false, Side, under, over, side}
+use Rattle.ump.proofs.First.{Side, under, over, side}
 use Rattle.ump.proofs.Replace.{added, removed, moved, piece, length-before, length-mixed, range-forward, range-inside, range-whole, moved-lower, moved-higher, total-zero}
 use Rattle.ump.proofs.Signed.{moved-past-is}
 

@@ -2,27 +2,27 @@
 -- Assumes nothing.
 use mathlib.Core.Path.{_≡_, refl, sym, ap, _∙_}
 use mathlib.Core.Bool.{Bool, true, false, cond}
-use mathlib.Core.List.{List, [], _∷_, _++_, append-assoc, map, append-nil}
+use mathlib.Core.List.{List, [], _∷_, _++_, append-assoc, map}
 use Prim.Native.Nat.{ℕ, zero, suc, _+_, _-_, _*_, _/_, _%_, _≤_, _<_}
 use native.Mathlib.Nat.{mul-suc, mul-zero, mul-assoc, mul-comm, div-add-mod, mod-lt, div-lt-iff-lt-mul, mul-add-div, mul-add-mod-self-left, div-eq-of-lt, mod-eq-of-lt}
 use native.Mathlib.Omega.{arith}
 use lib.Dec.{ltb}
 use lib.ListN.{length, getD, take, drop, length-map}
-use lib.Seq.{slice, getD-take, getD-drop, take-at}
+use lib.Seq.{slice, getD-take}
 use borrow.Author.Tests.{lt-ltb, le-ltb, eq-eqb}
 use Rattle.refusal.specs.Answer.{gives, pass}
 use Rattle.ump.specs.Word.{octets, Below, octet}
-use Rattle.ump.specs.Packet.{Shape, header, groupAt, idAt, joined, packet}
-use Rattle.ump.specs.Packing.{frame, statusFor, chunk, packetsFor, wordsFor, pack, packsAt, packs}
+use Rattle.ump.specs.Packet.{Shape, header, groupAt, idAt, joined}
+use Rattle.ump.specs.Packing.{packetsFor, wordsFor, pack}
 use Rattle.ump.specs.Check.{check, payloadOf}
 use Rattle.ump.specs.Splice.{spliced, rewritten, Spliced, splice, repack}
-use Rattle.ump.specs.Edits.{Edit, Patch, patchAt, editsFor, endBefore, Apart, replaced, total}
+use Rattle.ump.specs.Edits.{Patch, patchAt, editsFor, endBefore, Apart, replaced, total}
 use Rattle.ump.specs.Origin.{headerOctets, Source, dumpByte, editByte, byteFrom, Origin, headerOctet, carried, filler, zeroed, untouched, originOf, originIn, octetFrom, sameSource, isFrom, isHeader, isFiller, howMany, inRange, Within, Traced}
 use Rattle.ump.specs.Holds.{Fewest}
-use Rattle.ump.proofs.Splicing.{group-fits, length-id, below-id, below-payload, below-spliced}
+use Rattle.ump.proofs.Splicing.{group-fits, length-id, below-id, below-payload}
 use Rattle.ump.proofs.Words.{below-append, below-take, below-drop, getD-octets, zero-octet}
 use Rattle.ump.proofs.First.{Side, under, over, side}
-use Rattle.ump.proofs.Sizes.{words-pos, packets-enough, status-small}
+use Rattle.ump.proofs.Sizes.{words-pos, packets-enough}
 use Rattle.ump.proofs.Positions.{octetAt, getD-frame, octet-of-pack}
 use Rattle.ump.proofs.Replace.{total-cong, total-zero}
 use Rattle.ump.proofs.Moving.{total-ge}
@@ -30,7 +30,6 @@ use Rattle.ump.proofs.Counting.{total-split, total-front, total-add, to
 use Rattle.ump.proofs.Demand.{rewritten-is-fewest}
 use Rattle.ump.proofs.Done.{known, packed}
 use Rattle.ump.proofs.Behind.{Behind, rewritten-behind}
-use Rattle.ump.proofs.Packing.{octets-frame, length-chunk, below-chunk, packet-packs}
 use Rattle.ump.proofs.Sources.{sources, replaced-from, one, count, dump-once, patch-once}
 use Rattle.ump.proofs.Runs.{begins-at, read-at}
 

@@ -6,7 +6,7 @@ use Prim.Native.Nat.{ℕ, zero, suc, _+_, _-_, _≤_, _<_}
 use native.Mathlib.Nat.{zero-add, add-zero, add-suc, le-trans}
 use native.Mathlib.Omega.{arith}
 use lib.Dec.{ltb, eqb}
-use lib.ListN.{length, List·getD-map, List·getD-eq-default, getD, take, drop}
+use lib.ListN.{length, getD, take, drop}
 use lib.Seq.{slice, slice-empty, take-suc, take-length, drop-append-le, length-take-le}
 use borrow.Author.Tests.{le-ltb, eq-eqb, ne-eqb}
 use Rattle.ump.specs.Packet.{joined}

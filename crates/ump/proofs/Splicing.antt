@@ -12,7 +12,6 @@ use Rattle.refusal.specs.Answer.{Answer, gives}
 use Rattle.ump.specs.Word.{octet, octets, Below}
 use Rattle.ump.specs.Packet.{Shape, header, firstWord, sizeAt, groupAt, idAt, packet, payloadAt, joined, payload}
 use Rattle.ump.specs.Packing.{wordsFor, pack}
-use Rattle.ump.specs.Check.{payloadOf}
 use Rattle.ump.specs.Splice.{spliced, stored, rewritten, repack, growthBy, Spliced, splice}
 use Rattle.ump.specs.Holds.{Holds}
 use Rattle.ump.proofs.Words.{below-append, below-take, below-drop, below-map}

@@ -1,5 +1,5 @@
 -- The steps of a worker, over a shape and over any two calls that meet the definitions: what it holds after each. Assumes nothing.
-use mathlib.Core.Path.{_≡_, refl, sym, ap, _∙_, subst}
+use mathlib.Core.Path.{_≡_, refl, ap, _∙_}
 use mathlib.Core.Logic.{_≢_}
 use mathlib.Core.Bool.{Bool, true, false, _||_}
 use mathlib.Core.List.{List, [], _∷_}
@@ -17,7 +17,7 @@ use Rattle.ump.specs.Check.{payloadOf}
 use Rattle.ump.specs.Splice.{spliced, Spliced, splice}
 use Rattle.ump.specs.Edits.{Edit, Patch, patchAt, Apart, allBytes, elem, movedPast, Order}
 use Rattle.ump.specs.Holds.{Holds, Fewest}
-use Rattle.ump.specs.Worker.{Calls, Held, End, finished, stopped, Works, rests, goes-on, splice-refused, move-refused, mapAnswer, Finishes, bytesOf, InPlace, Placed, reached}
+use Rattle.ump.specs.Worker.{Calls, Held, End, finished, stopped, Works, rests, goes-on, splice-refused, move-refused, Finishes, bytesOf, InPlace, Placed, reached}
 use Rattle.ump.proofs.Meets.{movedEdit, View, Ready, Meets, CanSplice, CanMove, Answers}
 use Rattle.ump.proofs.First.{is-false}
 use Rattle.ump.proofs.Sizes.{words-mono}

@@ -7,7 +7,7 @@ use lib.Dec.{T, eqb, ltb}
 use lib.IntN.{ℤ, pos, negsuc, _+ℤ_, _-ℤ_}
 use lib.ListN.{length, getD, take, drop}
 use lib.Seq.{slice}
-use Rattle.refusal.specs.Answer.{Answer, gives, refused, Verdict, _▷_, guard, writes}
+use Rattle.refusal.specs.Answer.{Answer, gives, Verdict, _▷_, guard, writes}
 use Rattle.ump.specs.Packet.{Shape, joined}
 use Rattle.ump.specs.Packing.{wordsFor}
 use Rattle.ump.specs.Check.{check, payloadOf}

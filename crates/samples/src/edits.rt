@@ -1,24 +1,9 @@
 // Samples of edits.
-use crate::compare::same_words;
+use compare::MESSAGE;
+use compare::same_words;
 use edit::Edit;
 use edit::Moved;
 use splice::sysex8::Spliced;
-
-// P5's message.
-pub(crate) const MESSAGE: [u32; 12] = [
-    0x5113_05A0u32,
-    0xA100_0000,
-    0,
-    0,
-    0x5121_0500,
-    0,
-    0,
-    0,
-    0x5132_05A2,
-    0,
-    0,
-    0,
-];
 
 // The length of the message after a splice, or 0 if it is refused.
 fn put(words: &mut [u32], length: usize, from: usize, to: usize, bytes: &[u8]) -> usize {

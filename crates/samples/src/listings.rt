@@ -1,5 +1,5 @@
 // Samples of listings.
-use crate::compare::lists;
+use compare::lists;
 
 // P5's first message.
 pub(crate) fn p5() -> bool {

@@ -1,37 +1,12 @@
 // The samples of document 01, run through the public calls: a line for each, `ok` or `WRONG`.
-use libc::STDOUT_FILENO;
+use compare::report;
 
-mod compare;
 mod edits;
 mod listings;
 mod messages;
-mod origins;
 mod packets;
 mod packings;
 mod streams;
-
-// Writes the line of a sample.
-fn report(name: &[u8], right: bool) {
-    io::write_all(STDOUT_FILENO, name);
-    if right {
-        io::write_all(STDOUT_FILENO, b" ok\n");
-    } else {
-        io::write_all(STDOUT_FILENO, b" WRONG\n");
-    }
-}
-
-// Where an octet comes from.
-fn report_origins() {
-    report(b"origins, P6", origins::p6());
-    report(b"origins, P7", origins::p7());
-    report(b"origins, P8", origins::p8());
-    report(b"origins, P9", origins::p9());
-    report(b"origins, P8 with words behind", origins::behind());
-    report(b"origins, refused edits", origins::edits());
-    report(b"origins, refused lengths", origins::lengths());
-    report(b"origins, refused messages", origins::messages());
-    report(b"origins, 16,385 words", origins::long());
-}
 
 fn main() {
     report(b"P1", messages::p1());
@@ -58,5 +33,4 @@ fn main() {
     report(b"sx8list, P5", listings::p5());
     report(b"sx8list, P4, first five words", listings::five_words());
     report(b"sx8list, a packet of another type", listings::foreign());
-    report_origins();
 }

@@ -1,7 +1,7 @@
 // Samples of SysEx8 messages.
-use crate::compare::has_payload;
-use crate::compare::is_message;
-use crate::compare::is_refused;
+use compare::has_payload;
+use compare::is_message;
+use compare::is_refused;
 
 // 50010000 0 0 0: empty.
 pub(crate) fn p1() -> bool {

@@ -1,6 +1,7 @@
 // Samples of packing and splice.
-use crate::compare::is_fault;
-use crate::compare::same_words;
+use compare::MESSAGE;
+use compare::is_fault;
+use compare::same_words;
 use splice::sysex8::Repacked;
 use splice::sysex8::Spliced;
 
@@ -51,20 +52,7 @@ pub(crate) fn p4() -> bool {
 
 // 511305A0 A1000000 0 0 51210500 0 0 0 513205A2 0 0 0 packs to 510405A0 A1A20000 0 0.
 pub(crate) fn p5() -> bool {
-    let mut words = [
-        0x5113_05A0u32,
-        0xA100_0000,
-        0,
-        0,
-        0x5121_0500,
-        0,
-        0,
-        0,
-        0x5132_05A2,
-        0,
-        0,
-        0,
-    ];
+    let mut words = MESSAGE;
     packs(
         &mut words,
         &[0x5104_05A0, 0xA1A2_0000, 0, 0, 0, 0, 0, 0, 0, 0, 0, 0],

@@ -1,6 +1,6 @@
 // Samples of byte streams.
-use crate::compare::is_fault;
-use crate::compare::same_words;
+use compare::is_fault;
+use compare::same_words;
 use stream::Written;
 
 // This stream in group 0 becomes so many words, and leaves the words expected.

@@ -1,11 +1,11 @@
--- `samples::compare::same_words`: both slices are as long. Assumes nothing.
+-- `compare::same_words`: both slices are as long. Assumes nothing.
 use mathlib.Core.Path.{_≡_}
 use Prim.Native.Nat.{_-_, _≤_}
 use native.Mathlib.Omega.{arith}
 use borrow.Author.Needs.{needs}
 use lib.ListN.{length}
-use Rattle.samples.proofs.compare.same_words.Statement.{statement}
-use Rattle.samples.proofs.compare.same_words.Tie as tie
+use Rattle.compare.proofs.same_words.Statement.{statement}
+use Rattle.compare.proofs.same_words.Tie as tie
 
 abbrev Inv-loop : tie.InvT-loop
 Inv-loop words expected at₀ at = (at ≤ length words) × (length words ≡ length expected)

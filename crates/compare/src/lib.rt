@@ -1,4 +1,5 @@
-// Answers compared with what document 01 says.
+// Answers compared with what document 01 says, and the line of a sample.
+use libc::STDOUT_FILENO;
 use listing::Listed;
 use message::sysex8::Checked;
 use message::sysex8::Copied;
@@ -7,8 +8,34 @@ use packet::Kind;
 use refusal::ByteRead;
 use refusal::Fault;
 
+// P5's message.
+pub const MESSAGE: [u32; 12] = [
+    0x5113_05A0u32,
+    0xA100_0000,
+    0,
+    0,
+    0x5121_0500,
+    0,
+    0,
+    0,
+    0x5132_05A2,
+    0,
+    0,
+    0,
+];
+
+// Writes the line of a sample.
+pub fn report(name: &[u8], right: bool) {
+    io::write_all(STDOUT_FILENO, name);
+    if right {
+        io::write_all(STDOUT_FILENO, b" ok\n");
+    } else {
+        io::write_all(STDOUT_FILENO, b" WRONG\n");
+    }
+}
+
 // A refusal with this number and place.
-pub(crate) fn is_fault(fault: Fault, number: u8, place: usize) -> bool {
+pub fn is_fault(fault: Fault, number: u8, place: usize) -> bool {
     let refusal = fault.refusal;
     if refusal::number(refusal) != number {
         return false;
@@ -17,7 +44,7 @@ pub(crate) fn is_fault(fault: Fault, number: u8, place: usize) -> bool {
 }
 
 // The words are the ones expected.
-pub(crate) fn same_words(words: &[u32], expected: &[u32]) -> bool {
+pub fn same_words(words: &[u32], expected: &[u32]) -> bool {
     if words.len() != expected.len() {
         return false;
     }
@@ -40,7 +67,7 @@ fn begins(bytes: &[u8], size: usize, expected: &[u8]) -> bool {
 }
 
 // The message in these words has this group, stream id and payload size.
-pub(crate) fn is_message(words: &[u32], group: u8, id: u8, size: usize) -> bool {
+pub fn is_message(words: &[u32], group: u8, id: u8, size: usize) -> bool {
     let checked = message::sysex8::check(words, words.len());
     let Checked::Message(found) = checked else {
         return false;
@@ -58,7 +85,7 @@ pub(crate) fn is_message(words: &[u32], group: u8, id: u8, size: usize) -> bool 
 }
 
 // The message in these words is refused so.
-pub(crate) fn is_refused(words: &[u32], number: u8, place: usize) -> bool {
+pub fn is_refused(words: &[u32], number: u8, place: usize) -> bool {
     let checked = message::sysex8::check(words, words.len());
     let Checked::Refused(fault) = checked else {
         return false;
@@ -76,7 +103,7 @@ fn copies(words: &[u32], expected: &[u8], bytes: &mut [u8]) -> bool {
 }
 
 // The message in these words has this payload.
-pub(crate) fn has_payload(words: &[u32], expected: &[u8]) -> bool {
+pub fn has_payload(words: &[u32], expected: &[u8]) -> bool {
     let mut bytes = [0u8; 64];
     copies(words, expected, &mut bytes)
 }
@@ -96,7 +123,7 @@ fn kind_code(kind: Kind) -> u8 {
 }
 
 // The SysEx8 packet in these words has this kind, group, stream id and payload size.
-pub(crate) fn is_packet8(words: &[u32], kind: u8, group: u8, id: u8, size: usize) -> bool {
+pub fn is_packet8(words: &[u32], kind: u8, group: u8, id: u8, size: usize) -> bool {
     let read = packet::sysex8::read_packet(words);
     let packet::sysex8::PacketRead::Packet(found) = read else {
         return false;
@@ -115,7 +142,7 @@ pub(crate) fn is_packet8(words: &[u32], kind: u8, group: u8, id: u8, size: usize
 }
 
 // The SysEx8 packet in these words is refused so.
-pub(crate) fn is_refused8(words: &[u32], number: u8) -> bool {
+pub fn is_refused8(words: &[u32], number: u8) -> bool {
     let read = packet::sysex8::read_packet(words);
     let packet::sysex8::PacketRead::Refused(fault) = read else {
         return false;
@@ -124,7 +151,7 @@ pub(crate) fn is_refused8(words: &[u32], number: u8) -> bool {
 }
 
 // The SysEx7 packet in these words has this kind, group and payload size.
-pub(crate) fn is_packet7(words: &[u32], kind: u8, group: u8, size: usize) -> bool {
+pub fn is_packet7(words: &[u32], kind: u8, group: u8, size: usize) -> bool {
     let read = packet::sysex7::read_packet(words);
     let packet::sysex7::PacketRead::Packet(found) = read else {
         return false;
@@ -140,7 +167,7 @@ pub(crate) fn is_packet7(words: &[u32], kind: u8, group: u8, size: usize) -> boo
 }
 
 // The SysEx7 packet in these words is refused so.
-pub(crate) fn is_refused7(words: &[u32], number: u8) -> bool {
+pub fn is_refused7(words: &[u32], number: u8) -> bool {
     let read = packet::sysex7::read_packet(words);
     let packet::sysex7::PacketRead::Refused(fault) = read else {
         return false;
@@ -149,7 +176,7 @@ pub(crate) fn is_refused7(words: &[u32], number: u8) -> bool {
 }
 
 // A byte was read, and it is this one.
-pub(crate) fn is_byte(read: ByteRead, value: u8) -> bool {
+pub fn is_byte(read: ByteRead, value: u8) -> bool {
     let ByteRead::Value(found) = read else {
         return false;
     };
@@ -166,7 +193,7 @@ fn writes(bytes: &[u8], expected: &[u8], words: &mut [u32], text: &mut [u8]) -> 
 }
 
 // The listing of these bytes is the one expected.
-pub(crate) fn lists(bytes: &[u8], expected: &[u8]) -> bool {
+pub fn lists(bytes: &[u8], expected: &[u8]) -> bool {
     let mut words = [0u32; listing::WORDS];
     let mut text = [0u8; listing::TEXT];
     writes(bytes, expected, &mut words, &mut text)

@@ -1,8 +1,8 @@
--- `samples::origins::agrees`: a row is behind those passed. Assumes nothing.
+-- `traces::origins::agrees`: a row is behind those passed. Assumes nothing.
 use borrow.Author.Needs.{needs}
 use Prim.Native.Nat.{_-_, _≤_}
-use Rattle.samples.proofs.origins.agrees.Statement.{statement}
-use Rattle.samples.proofs.origins.agrees.Tie as tie
+use Rattle.traces.proofs.origins.agrees.Statement.{statement}
+use Rattle.traces.proofs.origins.agrees.Tie as tie
 
 abbrev Inv-loop : tie.InvT-loop
 Inv-loop words length numbers bytes first table count row₀ row = row ≤ count

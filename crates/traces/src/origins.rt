@@ -1,7 +1,7 @@
 // Samples of where an octet comes from, compared with tables made by hand. A table has a row for each octet: H(eader), D(ump),
 // E(dit), F(iller), Z(eroed), U(ntouched) or R(efused), two numbers of two digits, and a space. The numbers are packet and octet, 0
 // and byte, edit and byte, or refusal and place.
-use crate::edits::MESSAGE;
+use compare::MESSAGE;
 use edit::OctetOrigin;
 
 // An origin as a row has it.

@@ -1,9 +1,9 @@
--- `samples::compare::begins`: a front of the bytes is as long as it says. Assumes nothing.
+-- `compare::begins`: a front of the bytes is as long as it says. Assumes nothing.
 use borrow.Author.Needs.{needs}
 use mathlib.Core.Path.{sym}
 use lib.Seq.{length-take-le}
-use Rattle.samples.proofs.compare.begins.Statement.{statement}
-use Rattle.samples.proofs.compare.begins.Tie as tie
+use Rattle.compare.proofs.begins.Statement.{statement}
+use Rattle.compare.proofs.begins.Tie as tie
 
 pub begins-spec : {M : Type 1} → statement M
 begins-spec =

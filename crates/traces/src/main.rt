@@ -3,6 +3,7 @@ use compare::report;
 
 mod origins;
 
+// Writes a line for each sample.
 fn main() {
     report(b"P6", origins::p6());
     report(b"P7", origins::p7());

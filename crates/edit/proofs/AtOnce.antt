@@ -21,7 +21,7 @@ use Rattle.ump.specs.Splice.{Spliced, rewritten}
 use Rattle.ump.specs.Edits.{Edit, Patch, patchAt, editsFor, replaced, allBytes, perEdit, editsOf, patchesOf, lengths, someBad, badList, someOverlap, allChecks, spliceAll}
 use Rattle.ump.specs.Holds.{Fewest}
 use Rattle.ump.specs.Worker.{Fits}
-use Rattle.ump.specs.Demand.{Whole}
+use Rattle.ump.specs.Demand.{WholeEdits}
 use Rattle.ump.specs.Origin.{Origin, originIn, origin, octetFrom, Traced}
 use Rattle.ump.proofs.Words.{below-take, below-drop}
 use Rattle.ump.proofs.Sizes.{words-mono}
@@ -199,7 +199,7 @@ none-bad n (edit ∷ edits) bytes h l f =
 
 -- a message and edits that demand 3 allows, lent as whole edits with their bytes
 module _ {s : Shape} (dense : Dense s) (words : List ℕ) (len : ℕ) (numbers bytes : List ℕ) (fits : Fits s words len (patchesOf (editsOf numbers) bytes))
-    (whole : Whole numbers bytes) where
+    (whole : WholeEdits numbers bytes) where
   good-list : badList (length (payloadOf s words len)) (length bytes) numbers ≡ false
   good-list =
       let edits : List Edit = editsOf numbers in

@@ -1,7 +1,7 @@
 -- Demand 3, and all that an auditor asks, over the promises of the exported calls that a service links. Assumes nothing.
 use mathlib.Core.Path.{_≡_, refl, sym, ap, _∙_}
 use mathlib.Core.List.{List, [], _∷_}
-use Prim.Native.Nat.{ℕ}
+use Prim.Native.Nat.{ℕ, _<_}
 use native.Mathlib.Omega.{arith}
 use lib.Dec.{lit<}
 use denote.Ref.{RefT}
@@ -20,21 +20,24 @@ use Rattle.ump.proofs.NotEmpty.{fits8}
 use Rattle.edit.proofs.Audit as audit
 use Rattle.edit.proofs.Audit.{Promised}
 use Rattle.latchbeacon.specs.Answers.{leaving, numberAnswer, changeAnswer, rangeAnswer, originAnswer}
-use Rattle.latchbeacon.proofs.Worker.{numberRead, changeRead, rangeRead, originRead, family}
+use Rattle.latchbeacon.proofs.Worker.{readAs, numberRead, changeRead, rangeRead, originRead, family}
 
 -- ---- reading a struct gives back the answer, as no refusal has the number 0
 
+read-refused : {A : Type 0} (number place : ℕ) (value : A) → 0 < number → readAs number place value ≡ refused number place
+read-refused number place value h = rw (ne-eqb number 0 (λ q. omega arith))
+
 number-read : (answer : Answer ℕ) → Numbered answer → numberRead (numberAnswer answer) ≡ answer
 number-read (gives value) h = refl
-number-read (refused number place) (numbered h) = rw (ne-eqb number 0 (λ q. omega arith))
+number-read (refused number place) (numbered h) = read-refused number place _ h
 
 change-read : (answer : Answer Spliced) → Numbered answer → changeRead (changeAnswer answer) ≡ answer
 change-read (gives change) h = refl
-change-read (refused number place) (numbered h) = rw (ne-eqb number 0 (λ q. omega arith))
+change-read (refused number place) (numbered h) = read-refused number place _ h
 
 range-read : (answer : Answer Range) → Numbered answer → rangeRead (rangeAnswer answer) ≡ answer
 range-read (gives range) h = refl
-range-read (refused number place) (numbered h) = rw (ne-eqb number 0 (λ q. omega arith))
+range-read (refused number place) (numbered h) = read-refused number place _ h
 
 origin-read : (answer : Answer Origin) → Numbered answer → originRead (originAnswer answer) ≡ answer
 origin-read (gives (headerOctet p j)) h = refl
@@ -43,7 +46,7 @@ origin-read (gives (carried (editByte k j))) h = refl
 origin-read (gives filler) h = refl
 origin-read (gives zeroed) h = refl
 origin-read (gives untouched) h = refl
-origin-read (refused number place) (numbered h) = rw (ne-eqb number 0 (λ q. omega arith))
+origin-read (refused number place) (numbered h) = read-refused number place _ h
 
 -- and so with what is lent after a call
 read-leaving : {A B : Type 0} (struct : A → B) (read : B → A) {said : B} {answer : A} {left : List ℕ} (outcome : A × List ℕ)

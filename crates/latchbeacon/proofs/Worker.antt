@@ -12,6 +12,7 @@ use Rattle.ump.specs.Origin.{Origin, headerOctet, carried, dumpByte, editByte, 
 use Rattle.ump.specs.Worker.{mapAnswer, over}
 use Rattle.ump.specs.Demand.{Family}
 use Rattle.edit.proofs.Called.{Called}
+use Rattle.edit.proofs.Worker.{spliceGiven, repackGiven, listGiven, askGiven}
 use Rattle.latchbeacon.specs.declared.answers.NumberAnswer.{NumberAnswer}
 use Rattle.latchbeacon.specs.declared.answers.ChangeAnswer.{ChangeAnswer}
 use Rattle.latchbeacon.specs.declared.answers.RangeAnswer.{RangeAnswer}
@@ -29,25 +30,27 @@ use Rattle.latchbeacon.proofs.edits.latchbeacon_move_edit.Reads as expo
 
 -- ---- the structs, read
 
+-- a value, refused where the number is not 0
+abbrev pub readAs : {A : Type 0} → ℕ → ℕ → A → Answer A
+readAs number place value = cond (eqb number 0) (gives value) (refused number place)
+
 abbrev pub numberRead : NumberAnswer → Answer ℕ
-numberRead said = cond (eqb (said .refusal) 0) (gives (said .value)) (refused (said .refusal) (said .place))
+numberRead said = readAs (said .refusal) (said .place) (said .value)
 
 abbrev pub changeRead : ChangeAnswer → Answer Spliced
-changeRead said = cond (eqb (said .refusal) 0) (gives (record { length = said .length; growth = said .growth })) (refused (said .refusal) (said .place))
+changeRead said = readAs (said .refusal) (said .place) (record { length = said .length; growth = said .growth })
 
 abbrev pub rangeRead : RangeAnswer → Answer Range
-rangeRead said = cond (eqb (said .refusal) 0) (gives (record { from = said .from; to = said .to })) (refused (said .refusal) (said .place))
+rangeRead said = readAs (said .refusal) (said .place) (record { from = said .from; to = said .to })
 
 -- the kinds of an origin by their numbers, as the header has them
 abbrev pub originRead : OriginAnswer → Answer Origin
 originRead said =
-    cond (eqb (said .refusal) 0)
-    (gives
+    readAs (said .refusal) (said .place)
     (cond (eqb (said .kind) 0) (headerOctet (said .number) (said .index))
     (cond (eqb (said .kind) 1) (carried (dumpByte (said .index)))
     (cond (eqb (said .kind) 2) (carried (editByte (said .number) (said .index)))
-    (cond (eqb (said .kind) 3) filler (cond (eqb (said .kind) 4) zeroed untouched))))))
-    (refused (said .refusal) (said .place))
+    (cond (eqb (said .kind) 3) filler (cond (eqb (said .kind) 4) zeroed untouched)))))
 
 -- ---- the calls
 
@@ -55,8 +58,7 @@ originRead said =
 -- leaves these words
 abbrev pub Splices : List ℕ → ℕ → Edit → List ℕ → Answer Spliced → List ℕ → Type 0
 Splices words len edit bytes answer left =
-    Called 2 splice-kinds.ps splice-kinds.r exported-splice.Post
-    (λ κs a. (a .0 .now ≡ words) × (a .1 .0 ≡ len) × (a .1 .1 .0 ≡ edit .from) × (a .1 .1 .1 .0 ≡ edit .to) × (a .1 .1 .1 .1 .0 .now ≡ bytes))
+    Called 2 splice-kinds.ps splice-kinds.r exported-splice.Post (spliceGiven words len edit bytes)
     (λ κs said. changeRead said) (λ κs exit. exit .0 .now ≡ left) answer
 
 -- `latchbeacon_move_edit` is called on a done edit, a pending one and which of them is first
@@ -69,21 +71,19 @@ Moves done pending done-first answer =
 -- `latchbeacon_sysex8_repack` is called on these words and this length
 abbrev pub Repacks : List ℕ → ℕ → Answer ℕ → List ℕ → Type 0
 Repacks words len answer left =
-    Called 1 repack-kinds.ps repack-kinds.r exported-repack.Post (λ κs a. (a .0 .now ≡ words) × (a .1 .0 ≡ len))
+    Called 1 repack-kinds.ps repack-kinds.r exported-repack.Post (repackGiven words len)
     (λ κs said. numberRead said) (λ κs exit. exit .0 .now ≡ left) answer
 
 -- `latchbeacon_sysex8_splice_all` is called on these words, this length, these numbers and bytes
 abbrev pub SplicesAll : List ℕ → ℕ → List ℕ → List ℕ → Answer Spliced → List ℕ → Type 0
 SplicesAll words len numbers bytes answer left =
-    Called 3 all-kinds.ps all-kinds.r exported-all.Post
-    (λ κs a. (a .0 .now ≡ words) × (a .1 .0 ≡ len) × (a .1 .1 .0 .now ≡ numbers) × (a .1 .1 .1 .0 .now ≡ bytes))
+    Called 3 all-kinds.ps all-kinds.r exported-all.Post (listGiven words len numbers bytes)
     (λ κs said. changeRead said) (λ κs exit. exit .0 .now ≡ left) answer
 
 -- `latchbeacon_sysex8_origin` is called on these words, this length, these numbers and bytes and an octet's index
 abbrev pub Asks : List ℕ → ℕ → List ℕ → List ℕ → ℕ → Answer Origin → Type 0
 Asks words len numbers bytes q answer =
-    Called 3 origin-kinds.ps origin-kinds.r exported-origin.Post
-    (λ κs a. (a .0 .now ≡ words) × (a .1 .0 ≡ len) × (a .1 .1 .0 .now ≡ numbers) × (a .1 .1 .1 .0 .now ≡ bytes) × (a .1 .1 .1 .1 .0 ≡ q))
+    Called 3 origin-kinds.ps origin-kinds.r exported-origin.Post (askGiven words len numbers bytes q)
     (λ κs said. originRead said) (λ κs exit. Unit {0}) answer
 
 abbrev pub family : Family

@@ -54,7 +54,7 @@ pub record Accepts {A B : Type 0} (Call : Answer A → B → Type 0) : Type 0 wh
   pub no-refusal : {number place : ℕ} {left : B} → Call (refused number place) left → ⊥
 
 -- numbers that are whole edits, and as many bytes as they replace
-pub record Whole (numbers bytes : List ℕ) : Type 0 where
+pub record WholeEdits (numbers bytes : List ℕ) : Type 0 where
   pub edits : length numbers % perEdit ≡ 0
   pub sum : length bytes ≡ lengths (editsOf numbers)
 
@@ -79,7 +79,7 @@ pub record Audited (shape : Shape) (family : Family) : Type 0 where
       → Works (family .calls) (bytesOf (patchesOf (editsOf numbers) bytes)) (start words len (patchesOf (editsOf numbers) bytes)) order (finished left-other size)
       → (change .length ≡ size) × (take (change .length) left ≡ take size left-other)
   -- Edits that demand 3 allows, lent as whole edits with their bytes, are accepted at once; and a message that passes the check is packed.
-  pub at-once-accepted : {words : List ℕ} {len : ℕ} {numbers bytes : List ℕ} → Whole numbers bytes → Below (shape .limit) bytes
+  pub at-once-accepted : {words : List ℕ} {len : ℕ} {numbers bytes : List ℕ} → WholeEdits numbers bytes → Below (shape .limit) bytes
       → Fits shape words len (patchesOf (editsOf numbers) bytes) → Accepts (family .SplicesAll words len numbers bytes)
   pub repack-accepted : {words : List ℕ} {len : ℕ} → check shape words len ≡ pass → Accepts (family .Repacks words len)
   -- Where each octet of the words lent comes from after packing, which is a list of no edits;

@@ -10,7 +10,6 @@ pub mod Walking
 pub mod Once
 pub mod Unique
 pub mod ShutOut
-pub mod Called
 pub mod Worker
 pub mod Demand
 pub mod AtOnce

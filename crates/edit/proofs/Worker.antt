@@ -6,6 +6,7 @@ use Prim.Native.Nat.{ℕ}
 use contract.Lifetimes.{Lfts}
 use borrow.Fn.Kinds.{Dens}
 use Rattle.refusal.specs.Answer.{Answer}
+use Rattle.refusal.proofs.Called.{Called}
 use Rattle.ump.specs.Splice as ump
 use Rattle.ump.specs.Edits.{Edit}
 use Rattle.ump.specs.Origin.{Origin}
@@ -18,7 +19,6 @@ use Rattle.splice.proofs.sysex8.splice.Kinds as splice-kinds
 use Rattle.splice.proofs.sysex8.splice.Reads as splice
 use Rattle.edit.specs.Meaning.{movedMeaning, originMeaning}
 use Rattle.edit.specs.declared.Edit as declared
-use Rattle.edit.proofs.Called.{Called}
 use Rattle.edit.proofs.move_edit.Kinds as move-kinds
 use Rattle.edit.proofs.move_edit.Reads as move
 use Rattle.edit.proofs.all.splice_all.Kinds as all-kinds

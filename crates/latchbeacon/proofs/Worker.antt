@@ -6,12 +6,12 @@ use mathlib.Core.List.{List}
 use Prim.Native.Nat.{ℕ}
 use lib.Dec.{eqb}
 use Rattle.refusal.specs.Answer.{Answer, gives, refused}
+use Rattle.refusal.proofs.Called.{Called}
 use Rattle.ump.specs.Splice.{Spliced}
 use Rattle.ump.specs.Edits.{Edit, Range}
 use Rattle.ump.specs.Origin.{Origin, headerOctet, carried, dumpByte, editByte, filler, zeroed, untouched}
 use Rattle.ump.specs.Worker.{mapAnswer, over}
 use Rattle.ump.specs.Demand.{Family}
-use Rattle.edit.proofs.Called.{Called}
 use Rattle.edit.proofs.Worker.{spliceGiven, repackGiven, listGiven, askGiven}
 use Rattle.latchbeacon.specs.declared.answers.NumberAnswer.{NumberAnswer}
 use Rattle.latchbeacon.specs.declared.answers.ChangeAnswer.{ChangeAnswer}

@@ -1,3 +1,4 @@
 pub mod Laws
 pub mod Tight
+pub mod Called
 pub mod Unique

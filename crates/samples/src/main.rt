@@ -1,11 +1,10 @@
-// The samples of document 01 that read a message or a packet, translate a byte stream or list a message, run through the public calls:
-// a line for each, `ok` or `WRONG`.
+// The samples of document 01 that read a message or a packet or list a message, run through the public calls: a line for each, `ok` or
+// `WRONG`.
 use compare::report;
 
 mod listings;
 mod messages;
 mod packets;
-mod streams;
 
 // Writes a line for each sample.
 fn main() {
@@ -13,11 +12,7 @@ fn main() {
     report(b"P2", messages::p2());
     report(b"P10", packets::p10());
     report(b"P11", packets::p11());
-    report(b"P12", streams::p12());
     report(b"P4, first five words", messages::five_words());
-    report(b"F0 F7", streams::no_data());
-    report(b"one byte F0", streams::one_byte());
-    report(b"F0 90 F7", streams::high_byte());
     report(b"sx8list, P5", listings::p5());
     report(b"sx8list, P4, first five words", listings::five_words());
     report(b"sx8list, a packet of another type", listings::foreign());

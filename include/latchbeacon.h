@@ -49,7 +49,7 @@ enum latchbeacon_refusal {
     LATCHBEACON_STATUS = 15,   /* single packet, status over 3 */
     LATCHBEACON_FIELD = 16,    /* field index, or value for a field, too big */
     LATCHBEACON_FRAME = 17,    /* stream under 2 bytes, first not F0 or last not F7 */
-    LATCHBEACON_BYTE = 18,     /* a byte of 80 hex or more between them */
+    LATCHBEACON_BYTE = 18,     /* a byte of 80 to F7 hex between them */
     LATCHBEACON_SPREAD = 19,   /* packing would need more words than the message has */
     LATCHBEACON_OVERLAP = 20   /* edits not in the stated order */
 };
@@ -284,7 +284,9 @@ size_t latchbeacon_sysex8_remaining(const uint32_t *words, size_t words_lent, si
 /* ---- byte stream to SysEx7 ----------------------------------------------------------------------------------------------------- */
 
 /* Writes F0, data, F7 as SysEx7 packets of six bytes, only the last shorter, and answers their words; words past them stay.
- * Refusals, in this order: 1, 16 (group over 15), 17, 18, 14. */
+ * Real-time bytes (F8 to FF hex) after F0 and before the last byte are passed over: they are no data and take no room. The stream may
+ * be of any length.
+ * Refusals, in this order: 1, 16 (group over 15), 17, 18 (its place counts all bytes, real-time bytes too; F0 has index 0), 14. */
 latchbeacon_number latchbeacon_bytes_to_sysex7(const uint8_t *bytes, size_t bytes_lent, uint8_t group, uint32_t *words,
                                                size_t words_lent);
 

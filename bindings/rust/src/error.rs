@@ -51,7 +51,7 @@ pub enum Refusal {
     Field,
     /// 17: stream under 2 bytes, first not F0 or last not F7.
     Frame,
-    /// 18: a byte of 80 hex or more between them.
+    /// 18: a byte of 80 to F7 hex between them.
     Byte,
     /// 19: packing would need more words than the message has. No message calls for it.
     Spread,
@@ -85,7 +85,7 @@ const TABLE: [(Refusal, &str, &str); 20] = [
     (Refusal::Status, "Status", "single packet, status over 3"),
     (Refusal::Field, "Field", "field index, or value for a field, too big"),
     (Refusal::Frame, "Frame", "stream under 2 bytes, first not F0 or last not F7"),
-    (Refusal::Byte, "Byte", "a byte of 80 hex or more between F0 and F7"),
+    (Refusal::Byte, "Byte", "a byte of 80 to F7 hex between F0 and F7"),
     (Refusal::Spread, "Spread", "packing would need more words than the message has"),
     (Refusal::Overlap, "Overlap", "edits not in the stated order"),
 ];

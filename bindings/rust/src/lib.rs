@@ -56,8 +56,8 @@
 //! | `sysex8::Packet::try_from(&words[..])`, `sysex7::Packet::try_from(&words[..])` | the same: [`sysex8::Packet`], [`sysex7::Packet`] |
 //! | `packet.status()` | [`packet.kind()`](sysex8::Packet::kind) |
 //! | `sysex7::Sysex7::try_from(&words[..])`, to check it | [`sysex7::check(&words, length)`](sysex7::check) |
-//! | `Sysex7::try_from(&bytes[..])?.try_into_ump()?` | [`bytes_to_sysex7(&bytes, group, &mut words)?`](bytes_to_sysex7) |
-//! | `ux::u4`, `ux::u7` | `u8`; what does not fit is refused with [`Refusal::Field`] or [`Refusal::Byte`] |
+//! | `Sysex7::try_from(&bytes[..])?.try_into_ump()?` | [`bytes_to_sysex7(&bytes, group, &mut words)?`](bytes_to_sysex7); it passes over real-time bytes, where midi2 panics |
+//! | `ux::u4`, `ux::u7` | `u8`; what does not fit is refused with [`Refusal::Field`] or [`Refusal::Byte`]; real-time bytes of a stream are passed over |
 //! | `error::InvalidData("...")` | [`Error`] with [`Refusal`]s 1 to 12, and the place |
 //! | `error::BufferOverflow`, which may leave the message empty | [`Error`] with [`Refusal::Room`]; the message stays |
 //! | `assert!` and panics | [`Error`] |

@@ -25,10 +25,14 @@ pub fn check(words: &[u32], length: usize) -> Result<Summary, Error> {
 /// Writes the byte stream F0, data, F7 as SysEx7 packets of six bytes, only the last shorter, and answers their words. Words past
 /// them stay.
 ///
+/// Real-time bytes (F8 to FF hex, such as timing clock) after F0 and before the last byte are passed over: they are no data and
+/// take no room. The stream may be of any length.
+///
 /// # Errors
 ///
 /// In this order: [`Long`](crate::Refusal::Long), [`Field`](crate::Refusal::Field) if `group` is over 15,
-/// [`Frame`](crate::Refusal::Frame), [`Byte`](crate::Refusal::Byte), [`Room`](crate::Refusal::Room).
+/// [`Frame`](crate::Refusal::Frame), [`Byte`](crate::Refusal::Byte), [`Room`](crate::Refusal::Room). The place of `Byte` counts all
+/// bytes, real-time bytes too; F0 has index 0. A real-time byte as the first or the last byte is refused with `Frame`.
 ///
 /// ```
 /// use latchbeacon::bytes_to_sysex7;
@@ -37,8 +41,12 @@ pub fn check(words: &[u32], length: usize) -> Result<Summary, Error> {
 /// let length = bytes_to_sysex7(&[0xF0, 1, 2, 3, 4, 5, 6, 7, 0xF7], 0, &mut words)?;
 /// assert_eq!(words[..length], [0x3016_0102, 0x0304_0506, 0x3031_0700, 0]);
 ///
-/// let error = bytes_to_sysex7(&[0xF0, 0x90, 0xF7], 0, &mut words).unwrap_err();
-/// assert_eq!(error.to_string(), "refusal 18 (Byte) at byte 1: a byte of 80 hex or more between F0 and F7");
+/// // A sequencer that sends its clock (F8) and active sensing (FE) while it dumps.
+/// let length = bytes_to_sysex7(&[0xF0, 0xF8, 1, 0xFE, 2, 0xF7], 0, &mut words)?;
+/// assert_eq!(words[..length], [0x3002_0102, 0]);
+///
+/// let error = bytes_to_sysex7(&[0xF0, 0xF8, 0xF8, 0x90, 0xF7], 0, &mut words).unwrap_err();
+/// assert_eq!(error.to_string(), "refusal 18 (Byte) at byte 3: a byte of 80 to F7 hex between F0 and F7");
 /// # Ok::<(), latchbeacon::Error>(())
 /// ```
 pub fn bytes_to_sysex7(bytes: &[u8], group: u8, words: &mut [u32]) -> Result<usize, Error> {

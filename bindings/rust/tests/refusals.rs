@@ -152,6 +152,44 @@ fn packets_and_streams_are_refused() {
     assert_eq!(stream(&[0xF0, 0xF7], 0, &mut [0]), 14);
 }
 
+// Streams: each is asked with the next at fault too, so that the order shows; no word changes.
+#[test]
+fn streams_are_refused_in_order() {
+    let refused = |bytes: &[u8], group, lent| {
+        let mut words = vec![0x0102_0304; lent];
+        let error = bytes_to_sysex7(bytes, group, &mut words).unwrap_err();
+        assert!(words.iter().all(|word| *word == 0x0102_0304));
+        (error.number(), error.place)
+    };
+    assert_eq!(refused(&[0xF0, 0x80], 16, 16_385), (1, 0));
+    assert_eq!(refused(&[0xF0, 0x80], 16, 0), (16, 0));
+    assert_eq!(refused(&[0xF0, 0x80, 0xF8], 0, 0), (17, 0));
+    assert_eq!(refused(&[0xF8, 0xF0, 0x80, 0xF7], 0, 0), (17, 0));
+    assert_eq!(refused(&[0xF0, 0xF7, 0xF8], 0, 0), (17, 0));
+    assert_eq!(refused(&[0xF8], 0, 0), (17, 0));
+    assert_eq!(refused(&[0xF0, 0xF8, 0x80, 0xF7], 0, 0), (18, 2));
+    assert_eq!(refused(&[0xF0, 0xF8, 1, 0xFF, 0xF7, 0x80, 0xF7], 0, 1), (18, 4));
+    assert_eq!(refused(&[0xF0, 0xF0, 0xF7], 0, 2), (18, 1));
+    assert_eq!(refused(&[0xF0, 0xF8, 0xF7], 0, 1), (14, 0));
+    assert_eq!(refused(&[0xF0, 1, 2, 3, 0xF8, 4, 5, 6, 7, 0xF7], 0, 3), (14, 0));
+}
+
+// Every byte between F0 and F7: below 80 hex it is data, from F8 on it is passed over, else it is refused.
+#[test]
+fn every_byte_of_a_stream() {
+    for byte in 0..=255 {
+        let mut words = [0x0102_0304; 2];
+        let answer = bytes_to_sysex7(&[0xF0, 0xFE, byte, 0xF7], 0, &mut words);
+        match byte {
+            0..=0x7F => assert_eq!((answer, words), (Ok(2), [0x3001_0000 | u32::from(byte) << 8, 0])),
+            0x80..=0xF7 => {
+                assert_eq!((answer, words), (Err(Error { refusal: Refusal::Byte, place: 2 }), [0x0102_0304; 2]))
+            }
+            0xF8..=0xFF => assert_eq!((answer, words), (Ok(2), [0x3000_0000, 0])),
+        }
+    }
+}
+
 // Fields: the first index past the last of each, and values that do not fit.
 #[test]
 fn fields_are_refused() {

@@ -186,6 +186,53 @@ fn p12() {
     assert_eq!(sysex7::check(&[0x3016_0102, 0x0304_0506, 0x3031_0700, 0], 4).unwrap().size, 7);
 }
 
+// Real-time bytes between F0 and F7 are passed over; the place of a byte that is refused counts them.
+#[test]
+fn streams_with_real_time_bytes() {
+    let rest = 0xFFFF_FFFF;
+    let stream = |bytes: &[u8]| {
+        let mut words = [rest; 4];
+        bytes_to_sysex7(bytes, 0, &mut words).map(|length| (length, words))
+    };
+    assert_eq!(stream(&[0xF0, 0xF8, 1, 0xFE, 2, 0xF7]), Ok((2, [0x3002_0102, 0, rest, rest])));
+    assert_eq!(stream(&[0xF0, 0xF8, 0xF7]), Ok((2, [0x3000_0000, 0, rest, rest])));
+    let p12 = [0xF0, 0xFF, 1, 2, 3, 4, 5, 0xFA, 6, 0xFB, 0xFC, 7, 0xF9, 0xF7];
+    assert_eq!(stream(&p12), Ok((4, [0x3016_0102, 0x0304_0506, 0x3031_0700, 0])));
+    assert_eq!(stream(&[0xF0, 1, 0xF7, 2, 0xF7]), refused(Refusal::Byte, 2));
+    assert_eq!(stream(&[0xF0, 0xF8, 0xF8, 0x90, 0xF7]), refused(Refusal::Byte, 3));
+    assert_eq!(stream(&[0xF8, 0xF0, 0xF7]), refused(Refusal::Frame, 0));
+    assert_eq!(stream(&[0xF0, 0xF7, 0xF8]), refused(Refusal::Frame, 0));
+}
+
+// A stream of these bytes with a clock byte before, between and behind them.
+fn clocked(data: &[u8]) -> Vec<u8> {
+    let inner = data.iter().flat_map(|byte| [*byte, 0xF8]);
+    [0xF0, 0xF8].into_iter().chain(inner).chain([0xF7]).collect()
+}
+
+// The most data bytes that words hold, 6 to each 2 of 16,384, and one more; clock bytes take no room.
+#[test]
+fn the_longest_stream() {
+    let data: Vec<u8> = (0..49_153u32).map(|index| (index % 127) as u8).collect();
+    let mut words = vec![0xFFFF_FFFF; 16_384];
+    assert_eq!(bytes_to_sysex7(&clocked(&data), 5, &mut words), refused(Refusal::Room, 0));
+    assert!(words.iter().all(|word| *word == 0xFFFF_FFFF));
+    assert_eq!(bytes_to_sysex7(&clocked(&data[..49_152]), 5, &mut words), Ok(16_384));
+    assert_eq!(sysex7::check(&words, 16_384).map(|summary| (summary.group, summary.size)), Ok((5, 49_152)));
+    let packets = words.chunks(2).map(|packet| sysex7::Packet::read(packet).unwrap());
+    assert!(packets.flat_map(|packet| packet.payload().collect::<Vec<u8>>()).eq(data[..49_152].iter().copied()));
+}
+
+// A million clock bytes around three data bytes.
+#[test]
+fn a_million_clock_bytes() {
+    let clock = [0xF8; 250_000];
+    let bytes = [&[0xF0], &clock[..], &[1], &clock, &[2], &clock, &[3], &clock, &[0xF7]].concat();
+    let mut words = [0xFFFF_FFFF; 3];
+    assert_eq!(bytes_to_sysex7(&bytes, 0, &mut words), Ok(2));
+    assert_eq!(words, [0x3003_0102, 0x0300_0000, 0xFFFF_FFFF]);
+}
+
 // The words that payloads take, and what fits the largest buffer.
 #[test]
 fn words_for_payloads() {

@@ -27,7 +27,7 @@ use Rattle.latchbeacon.proofs.Worker.{readAs, numberRead, changeRead, r
 read-refused : {A : Type 0} (number place : ℕ) (value : A) → 0 < number → readAs number place value ≡ refused number place
 read-refused number place value h = rw (ne-eqb number 0 (λ q. omega arith))
 
-number-read : (answer : Answer ℕ) → Numbered answer → numberRead (numberAnswer answer) ≡ answer
+pub number-read : (answer : Answer ℕ) → Numbered answer → numberRead (numberAnswer answer) ≡ answer
 number-read (gives value) h = refl
 number-read (refused number place) (numbered h) = read-refused number place _ h
 
@@ -49,14 +49,14 @@ origin-read (gives untouched) h = refl
 origin-read (refused number place) (numbered h) = read-refused number place _ h
 
 -- and so with what is lent after a call
-read-leaving : {A B : Type 0} (struct : A → B) (read : B → A) {said : B} {answer : A} {left : List ℕ} (outcome : A × List ℕ)
+pub read-leaving : {A B : Type 0} (struct : A → B) (read : B → A) {said : B} {answer : A} {left : List ℕ} (outcome : A × List ℕ)
     → (said, left) ≡ leaving struct outcome → read said ≡ answer → read (struct (outcome .0)) ≡ outcome .0 → (answer, left) ≡ outcome
 read-leaving {A} {B} struct read {said} {answer} {left} outcome p a e =
     ap (λ (x : A). (x, left)) (sym a) ∙ ap (λ (o : B × List ℕ). (read (o .0), o .1)) p ∙ ap (λ (x : A). (x, outcome .1)) e
 
 -- ---- a call for each outcome that the definitions give
 
-abbrev lent : List ℕ → RefT (List ℕ)
+abbrev pub lent : List ℕ → RefT (List ℕ)
 lent list = record { ptr = (0, 0); name = 0; now = list }
 
 answers : PlainAnswers sysex8 (family .calls)

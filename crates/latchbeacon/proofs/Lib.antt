@@ -4,3 +4,5 @@ pub mod Unique
 pub mod ShutOut
 pub mod Worker
 pub mod Demand
+pub mod Writer
+pub mod RealTime

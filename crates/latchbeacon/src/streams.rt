@@ -4,7 +4,8 @@ ghost use Rattle.ump.specs.Stream.{toSysex7};
 ghost use Rattle.latchbeacon.specs.Answers.{numberAnswer, leaving};
 use crate::answers::NumberAnswer;
 
-// Writes F0, data, F7 as SysEx7 packets and answers their words; Long, Field, Frame, Byte, Room.
+// Writes F0, data, F7 as SysEx7 packets, real-time bytes between F0 and F7 passed over, and answers their words; Long, Field, Frame, Byte,
+// Room.
 #[no_mangle]
 pub extern "C" fn latchbeacon_bytes_to_sysex7(
     bytes: &[u8],

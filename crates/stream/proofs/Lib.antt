@@ -1,4 +1,8 @@
 pub mod Laws
+pub mod Walking
+pub mod Frames
 pub mod Writing
 pub mod Unique
 pub mod ShutOut
+pub mod Writer
+pub mod RealTime

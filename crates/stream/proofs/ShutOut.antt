@@ -61,3 +61,23 @@ not-zeroed κs a x s b g w r e p = differ (λ o. getD (o .1) 4 0) tt (rw (b, g, 
 not-written : ShutOut stream12 0 (replicate 3 9) (refusedAt Room 0) (0x30160102 ∷ 0x03040506 ∷ 9 ∷ [])
 unfolding toSysex7 first pack packs packsAt packetsFor statusFor frame joined wordsOf
 not-written κs a x s b g w r e p = differ (λ o. getD (o .1) 0 0) tt (rw (b, g, w, r, e) at p)
+
+-- F0 F8 F7: a clock byte is not refused; 01's rule refused it
+not-refused : ShutOut (0xF0 ∷ 0xF8 ∷ 0xF7 ∷ []) 0 (9 ∷ 9 ∷ []) (refusedAt Byte 1) (9 ∷ 9 ∷ [])
+unfolding toSysex7 first packetsFor
+not-refused κs a x s b g w r e p = differ (λ (o : Answer ℕ × List ℕ). told (λ v. v) (o .0)) tt (rw (b, g, w, r, e) at p)
+
+-- and is no data
+not-data : ShutOut (0xF0 ∷ 0xF8 ∷ 0xF7 ∷ []) 0 (9 ∷ 9 ∷ []) (Words 2) (0x3001F800 ∷ 0 ∷ [])
+unfolding toSysex7 first pack packs packsAt packetsFor statusFor frame joined wordsOf
+not-data κs a x s b g w r e p = differ (λ o. getD (o .1) 0 0) tt (rw (b, g, w, r, e) at p)
+
+-- F0 F8 F8 90 F7: the place counts the clock bytes
+not-uncounted : ShutOut (0xF0 ∷ 0xF8 ∷ 0xF8 ∷ 0x90 ∷ 0xF7 ∷ []) 0 (9 ∷ 9 ∷ []) (refusedAt Byte 1) (9 ∷ 9 ∷ [])
+unfolding toSysex7 first packetsFor
+not-uncounted κs a x s b g w r e p = differ (λ (o : Answer ℕ × List ℕ). told (λ v. v) (o .0)) tt (rw (b, g, w, r, e) at p)
+
+-- six data bytes and a clock byte fit two words
+not-more-room : ShutOut (0xF0 ∷ 1 ∷ 2 ∷ 3 ∷ 0xF8 ∷ 4 ∷ 5 ∷ 6 ∷ 0xF7 ∷ []) 0 (9 ∷ 9 ∷ []) (refusedAt Room 0) (9 ∷ 9 ∷ [])
+unfolding toSysex7 first pack packs packsAt packetsFor statusFor frame joined wordsOf
+not-more-room κs a x s b g w r e p = differ (λ (o : Answer ℕ × List ℕ). told (λ v. v) (o .0)) tt (rw (b, g, w, r, e) at p)

@@ -1,10 +1,10 @@
-// Samples of byte streams.
+// Samples of byte streams without real-time bytes, and what all samples use.
 use compare::is_fault;
 use compare::same_words;
 use stream::Written;
 
 // This stream in group 0 becomes so many words, and leaves the words expected.
-fn writes(bytes: &[u8], words: &mut [u32], length: usize, expected: &[u32]) -> bool {
+pub(crate) fn writes(bytes: &[u8], words: &mut [u32], length: usize, expected: &[u32]) -> bool {
     let written = stream::to_sysex7(bytes, 0, words);
     let Written::Words(count) = written else {
         return false;
@@ -16,7 +16,7 @@ fn writes(bytes: &[u8], words: &mut [u32], length: usize, expected: &[u32]) -> b
 }
 
 // This stream is refused so, and the words stay.
-fn refuses(bytes: &[u8], number: u8, place: usize) -> bool {
+pub(crate) fn refuses(bytes: &[u8], number: u8, place: usize) -> bool {
     let mut words = [9u32, 9];
     let written = stream::to_sysex7(bytes, 0, &mut words);
     let Written::Refused(fault) = written else {

@@ -127,3 +127,18 @@ pub first-cong : (f g : ℕ → Bool) (n : ℕ) → ((i : ℕ) → i < n → f i
 unfolding first
 first-cong f g zero h = refl
 first-cong f g (suc n) h = rw (first-cong f g n (λ i k. h i (omega arith)), h n (omega arith))
+
+-- the first of a test is 0, or one more than the first of the test one further on
+pub first-suc : (f : ℕ → Bool) (n : ℕ) → first f (suc n) ≡ cond (f 0) 0 (suc (first (λ i. f (suc i)) n))
+first-suc f n = go (f 0) refl
+  where
+    m : ℕ
+    m = first (λ i. f (suc i)) n
+
+    before : f 0 ≡ false → (j : ℕ) → j < suc m → f j ≡ false
+    before e zero k = e
+    before e (suc j) k = first-before (λ i. f (suc i)) n j (omega arith)
+
+    go : (b : Bool) → f 0 ≡ b → first f (suc n) ≡ cond b 0 (suc m)
+    go true e = first-is f (suc n) 0 (omega arith) (λ j k. absurd (omega arith)) (λ k. e)
+    go false e = first-is f (suc n) (suc m) (omega (arith, first-le (λ i. f (suc i)) n)) (before e) (λ k. first-at (λ i. f (suc i)) n (omega arith))

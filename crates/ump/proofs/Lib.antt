@@ -15,7 +15,9 @@ pub mod Positions
 pub mod NotEmpty
 pub mod Setting
 pub mod Reading
+pub mod Without
 pub mod Streaming
+pub mod RealTime
 pub mod Payload
 pub mod Singles
 pub mod Done

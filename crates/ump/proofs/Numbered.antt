@@ -5,12 +5,13 @@ use Prim.Native.Nat.{ℕ, suc, _*_, _%_, _/_, _<_}
 use lib.Dec.{eqb, ltb, lit<}
 use lib.ListN.{length}
 use Rattle.refusal.specs.Answer.{Answer, gives, refused, Verdict, _▷_, guard, writes}
-use Rattle.ump.specs.Packet.{Shape}
+use Rattle.ump.specs.Packet.{Shape, sysex7}
 use Rattle.ump.specs.Packing.{wordsFor}
 use Rattle.ump.specs.Check.{first, sweep, statusNumber, badType, badStatus, badCount, badGroup, badId, checkPackets, check, payloadOf}
 use Rattle.ump.specs.Splice.{spliced, splice, repack}
 use Rattle.ump.specs.Edits.{Edit, badEdit, moveEdit, replaced, editsOf, patchesOf, badList, someOverlap, allChecks, spliceAll}
 use Rattle.ump.specs.Origin.{origin}
+use Rattle.ump.specs.Stream.{badFrame, between, badByte, firstBad, dataOf, toSysex7}
 
 pub data Numbered {A : Type 0} : Answer A → Type 0 where
   accepted : {value : A} → Numbered (gives value)
@@ -99,3 +100,13 @@ unfolding moveEdit
 move-numbered done pending done-first =
     both _ _ (by-guard (badEdit done || badEdit pending) 13 0 (lit< tt))
     (both _ _ (by-guard (cond done-first (ltb (pending .from) (done .to)) (ltb (done .from) (pending .to))) 20 0 (lit< tt)) accepted)
+
+pub stream-numbered : (bytes : List ℕ) (group : ℕ) (words : List ℕ) → Numbered (toSysex7 bytes group words .0)
+unfolding toSysex7
+stream-numbered bytes group words =
+    by-writes _ words _ _
+    (both _ _ (by-guard (ltb 16384 (length words)) 1 0 (lit< tt))
+    (both _ _ (by-guard (ltb 15 group) 16 0 (lit< tt))
+    (both _ _ (by-guard (badFrame bytes) 17 0 (lit< tt))
+    (both _ _ (by-guard (ltb (firstBad badByte (between bytes)) (length (between bytes))) 18 (suc (firstBad badByte (between bytes))) (lit< tt))
+    (by-guard (ltb (length words) (wordsFor sysex7 (length (dataOf bytes)))) 14 0 (lit< tt))))))

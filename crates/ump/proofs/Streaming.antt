@@ -1,11 +1,11 @@
 -- The byte stream: the cases of the call; and what it accepts becomes a valid SysEx7 message that carries the data. Assumes nothing.
-use mathlib.Core.Path.{_≡_, refl}
+use mathlib.Core.Path.{_≡_, refl, sym, ap, _∙_}
 use mathlib.Core.Bool.{Bool, true, false}
 use mathlib.Core.List.{List, [], _++_}
-use Prim.Native.Nat.{ℕ, suc, _≤_, _<_}
+use Prim.Native.Nat.{ℕ, suc, _-_, _≤_, _<_}
 use native.Mathlib.Omega.{arith}
 use lib.Dec.{ltb}
-use lib.ListN.{length, getD, take, drop}
+use lib.ListN.{length, getD, take, drop, length-append, length-drop, take-append-drop}
 use lib.Seq.{take-at, drop-at}
 use borrow.Author.Tests.{ltb-false, lt-ltb, le-ltb}
 use Rattle.refusal.specs.Answer.{gives, refused, _▷_, guard, writes}
@@ -13,19 +13,19 @@ use Rattle.refusal.proofs.Laws.{never-refused}
 use Rattle.ump.specs.Word.{Below}
 use Rattle.ump.specs.Packet.{sysex7}
 use Rattle.ump.specs.Packing.{pack, wordsFor}
-use Rattle.ump.specs.Check.{first, payloadOf, checked}
-use Rattle.ump.specs.Stream.{badFrame, between, badByte, toSysex7}
-use Rattle.ump.proofs.Words.{below-at}
+use Rattle.ump.specs.Check.{payloadOf, checked}
+use Rattle.ump.specs.Stream.{badFrame, between, badByte, withoutRealTime, firstBad, dataOf, toSysex7}
+use Rattle.ump.proofs.Without.{data-below}
 use Rattle.ump.proofs.First.{first-before}
 use Rattle.ump.proofs.Packing.{length-pack}
 use Rattle.ump.proofs.Message.{payloadOf-pack, checked-pack}
 
--- the first byte of 80 hex or more, and the words that the data needs
-abbrev pub firstBad : List ℕ → ℕ
-firstBad bytes = first (badByte (between bytes)) (length (between bytes))
+-- the first byte of 80 to F7, and the words that the data needs
+abbrev pub badAt : List ℕ → ℕ
+badAt bytes = firstBad badByte (between bytes)
 
 abbrev pub needed : List ℕ → ℕ
-needed bytes = wordsFor sysex7 (length (between bytes))
+needed bytes = wordsFor sysex7 (length (dataOf bytes))
 
 -- ---- the cases, each after those before it did not hold
 
@@ -45,17 +45,17 @@ module _ (bytes : List ℕ) (group : ℕ) (words : List ℕ) where
       stream-frame h = rw (le-ltb _ _ few, le-ltb _ _ small, h)
 
       module _ (framed : badFrame bytes ≡ false) where
-        pub stream-byte : firstBad bytes < length (between bytes) → toSysex7 bytes group words ≡ (refused 18 (suc (firstBad bytes)), words)
+        pub stream-byte : badAt bytes < length (between bytes) → toSysex7 bytes group words ≡ (refused 18 (suc (badAt bytes)), words)
         unfolding toSysex7
         stream-byte h = rw (le-ltb _ _ few, le-ltb _ _ small, framed, lt-ltb _ _ h)
 
-        module _ (septets : length (between bytes) ≤ firstBad bytes) where
+        module _ (septets : length (between bytes) ≤ badAt bytes) where
           pub stream-room : length words < needed bytes → toSysex7 bytes group words ≡ (refused 14 0, words)
           unfolding toSysex7
           stream-room h = rw (le-ltb _ _ few, le-ltb _ _ small, framed, le-ltb _ _ septets, lt-ltb _ _ h)
 
           pub stream-done : needed bytes ≤ length words
-              → toSysex7 bytes group words ≡ (gives (needed bytes), pack sysex7 group [] (between bytes) ++ drop (needed bytes) words)
+              → toSysex7 bytes group words ≡ (gives (needed bytes), pack sysex7 group [] (dataOf bytes) ++ drop (needed bytes) words)
           unfolding toSysex7
           stream-done h = rw (le-ltb _ _ few, le-ltb _ _ small, framed, le-ltb _ _ septets, le-ltb _ _ h)
 
@@ -65,7 +65,7 @@ pub record Accepted (bytes : List ℕ) (group : ℕ) (words : List ℕ) (n : ℕ
   pub few : length words ≤ 16384
   pub small : group ≤ 15
   pub framed : badFrame bytes ≡ false
-  pub septets : length (between bytes) ≤ firstBad bytes
+  pub septets : length (between bytes) ≤ badAt bytes
   pub room : needed bytes ≤ length words
   pub written : n ≡ needed bytes
 
@@ -73,8 +73,8 @@ pub stream-tells : (bytes : List ℕ) (group : ℕ) (words : List ℕ) (n : ℕ)
 unfolding toSysex7
 stream-tells bytes group words n e = go _ _ _ _ _ _ refl refl refl refl refl e
   where
-    go : (after : List ℕ) (a b c d f : Bool) → ltb 16384 (length words) ≡ a → ltb 15 group ≡ b → badFrame bytes ≡ c → ltb (firstBad bytes) (length (between bytes)) ≡ d → ltb (length words) (needed bytes) ≡ f
-        → writes (guard a 1 0 ▷ guard b 16 0 ▷ guard c 17 0 ▷ guard d 18 (suc (firstBad bytes)) ▷ guard f 14 0) words (needed bytes) after .0 ≡ gives n
+    go : (after : List ℕ) (a b c d f : Bool) → ltb 16384 (length words) ≡ a → ltb 15 group ≡ b → badFrame bytes ≡ c → ltb (badAt bytes) (length (between bytes)) ≡ d → ltb (length words) (needed bytes) ≡ f
+        → writes (guard a 1 0 ▷ guard b 16 0 ▷ guard c 17 0 ▷ guard d 18 (suc (badAt bytes)) ▷ guard f 14 0) words (needed bytes) after .0 ≡ gives n
         → Accepted bytes group words n
     go after true b c d f ea eb ec ed ef x = never-refused x
     go after false true c d f ea eb ec ed ef x = never-refused x
@@ -86,31 +86,55 @@ stream-tells bytes group words n e = go _ _ _ _ _ _ refl refl refl refl refl e
 
 -- ---- a valid message that carries the data
 
+-- where no byte is bad, the bytes that are no real-time bytes are below 80 hex
+septets-below : (bytes : List ℕ) → length bytes ≤ firstBad badByte bytes → Below 128 (withoutRealTime bytes)
+septets-below bytes h =
+    data-below bytes
+    (λ i k. first-before (λ j. badByte (getD bytes j 0)) (length bytes) i (omega arith))
+
 -- the words lent, after a call that writes n of them: the fewest-packet form of the data, then what stood there; those n are a valid
 -- message that carries the data, whatever stands behind them
 pub record Streamed (bytes : List ℕ) (group : ℕ) (words : List ℕ) (n : ℕ) (after : List ℕ) : Type 0 where
-  pub fewest : take n after ≡ pack sysex7 group [] (between bytes)
+  pub fewest : take n after ≡ pack sysex7 group [] (dataOf bytes)
   pub stays : drop n after ≡ drop n words
   pub checks : (rest : List ℕ) → length (take n after ++ rest) ≤ 16384
-      → checked sysex7 (take n after ++ rest) n ≡ gives (record { group = group; id = []; size = length (between bytes); words = n })
-  pub carries : (rest : List ℕ) → payloadOf sysex7 (take n after ++ rest) n ≡ between bytes
+      → checked sysex7 (take n after ++ rest) n ≡ gives (record { group = group; id = []; size = length (dataOf bytes); words = n })
+  pub carries : (rest : List ℕ) → payloadOf sysex7 (take n after ++ rest) n ≡ dataOf bytes
+
+-- as many words are lent after as before
+streamed-length : (bytes : List ℕ) (group : ℕ) (words : List ℕ) (n : ℕ) (after : List ℕ) → Streamed bytes group words n after → n ≡ needed bytes → n ≤ length words
+    → length after ≡ length words
+streamed-length bytes group words n after s e h =
+    let l : length (take n after) ≡ n = rw (s .fewest) (length-pack sysex7 group [] (dataOf bytes) refl ∙ sym e) in
+    let k : length (drop n after) ≡ length words - n = rw (s .stays) (length-drop n words) in
+    omega (arith, rw (take-append-drop n after) at (length-append (take n after) (drop n after)))
 
 pub stream-valid : (bytes : List ℕ) (group : ℕ) (words : List ℕ) (n : ℕ) → toSysex7 bytes group words .0 ≡ gives n
     → Streamed bytes group words n (toSysex7 bytes group words .1)
 stream-valid bytes group words n e =
     let a = stream-tells bytes group words n e in
-    let inner : List ℕ = between bytes in
-    let m : List ℕ = pack sysex7 group [] inner in
-    let l : length m ≡ needed bytes = length-pack sysex7 group [] inner refl in
+    let bs : List ℕ = dataOf bytes in
+    let m : List ℕ = pack sysex7 group [] bs in
+    let l : length m ≡ needed bytes = length-pack sysex7 group [] bs refl in
     let t : take (needed bytes) (m ++ drop (needed bytes) words) ≡ m = take-at m (drop (needed bytes) words) (needed bytes) l in
     let g : group < 16 = omega (arith, a .small) in
-    let b : Below 128 inner =
-    below-at 128 inner (λ i h. omega (arith, ltb-false 0x7F (getD inner i 0) (first-before (badByte inner) (length inner) i (omega (arith, a .septets)))))
-    in
+    let b : Below 128 bs = septets-below (between bytes) (a .septets) in
     rw (stream-done bytes group words (a .few) (a .small) (a .framed) (a .septets) (a .room), a .written)
     (record {
       fewest = t;
       stays = drop-at m (drop (needed bytes) words) (needed bytes) l;
-      checks = λ rest h. rw t (checked-pack sysex7 group [] inner g refl tt b rest (rw t at h));
-      carries = λ rest. rw t (payloadOf-pack sysex7 group [] inner g refl tt b rest);
+      checks = λ rest h. rw t (checked-pack sysex7 group [] bs g refl tt b rest (rw t at h));
+      carries = λ rest. rw t (payloadOf-pack sysex7 group [] bs g refl tt b rest);
     })
+
+-- the words lent as a whole
+pub stream-carries : (bytes : List ℕ) (group : ℕ) (words : List ℕ) (n : ℕ) (left : List ℕ) → (gives n, left) ≡ toSysex7 bytes group words
+    → (checked sysex7 left n ≡ gives (record { group = group; id = []; size = length (dataOf bytes); words = n })) × (payloadOf sysex7 left n ≡ dataOf bytes)
+stream-carries bytes group words n left e =
+    let g : toSysex7 bytes group words .0 ≡ gives n = sym (ap (λ o. o .0) e) in
+    let a = stream-tells bytes group words n g in
+    let s : Streamed bytes group words n left = rw (← (ap (λ o. o .1) e)) at (stream-valid bytes group words n g) in
+    let h : n ≤ length words = omega (arith, a .room, a .written) in
+    let l : length left ≤ 16384 = omega (arith, streamed-length bytes group words n left s (a .written) h, a .few) in
+    let t : take n left ++ drop n left ≡ left = take-append-drop n left in
+    (rw t at (s .checks (drop n left) (rw t l)), rw t at (s .carries (drop n left)))

@@ -10,7 +10,9 @@ pub mod Splice
 pub mod Edits
 pub mod Holds
 pub mod Stream
+pub mod RealTime
 pub mod Samples
+pub mod Clock
 pub mod Runs
 pub mod Origin
 pub mod Traces

@@ -1,7 +1,7 @@
--- A byte stream to SysEx7 packets: F0, data, F7 and a group.
+-- A byte stream to SysEx7 packets: F0, data, F7 and a group. Real-time bytes between F0 and F7 are passed over.
 -- Assumes nothing.
-use mathlib.Core.Bool.{Bool, not, _||_}
-use mathlib.Core.List.{List, [], _++_}
+use mathlib.Core.Bool.{Bool, not, cond, _&&_, _||_}
+use mathlib.Core.List.{List, [], _∷_, _++_}
 use Prim.Native.Nat.{ℕ, suc, _-_}
 use lib.Dec.{eqb, ltb}
 use lib.ListN.{length, getD, take, drop}
@@ -18,21 +18,43 @@ badFrame bytes = ltb (length bytes) 2 || (not (eqb (getD bytes 0 0) 0xF0) || not
 abbrev pub between : List ℕ → List ℕ
 between bytes = take (length bytes - 2) (drop 1 bytes)
 
--- byte i of these is 80 hex or more
-abbrev pub badByte : List ℕ → ℕ → Bool
-badByte inner i = ltb 0x7F (getD inner i 0)
+-- a real-time byte: F8 to FF
+abbrev pub realTime : ℕ → Bool
+realTime byte = ltb 0xF7 byte
 
+-- a byte that may not stand between F0 and F7: 80 to F7
+abbrev pub badByte : ℕ → Bool
+badByte byte = ltb 0x7F byte && not (realTime byte)
+
+-- bytes without the real-time bytes among them
+abbrev pub withoutRealTime : List ℕ → List ℕ
+withoutRealTime [] = []
+withoutRealTime (byte ∷ bytes) = cond (realTime byte) (withoutRealTime bytes) (byte ∷ withoutRealTime bytes)
+
+-- the index of the first bad byte; their number where there is none
+abbrev pub firstBad : (ℕ → Bool) → List ℕ → ℕ
+firstBad bad bytes = first (λ i. bad (getD bytes i 0)) (length bytes)
+
+-- the data of a stream
+abbrev pub dataOf : List ℕ → List ℕ
+dataOf bytes = withoutRealTime (between bytes)
+
+-- a stream as packets, by which bytes are bad between F0 and F7, and what is taken for data:
 -- Long, Field, Frame, Byte, Room; answers the words written; words past them stay
-unfoldable pub toSysex7 : List ℕ → ℕ → List ℕ → Answer ℕ × List ℕ
-toSysex7 bytes group words =
+abbrev pub toPackets : (ℕ → Bool) → (List ℕ → List ℕ) → List ℕ → ℕ → List ℕ → Answer ℕ × List ℕ
+toPackets bad taken bytes group words =
     let inner = between bytes in
-    let bad = first (badByte inner) (length inner) in
-    let needed = wordsFor sysex7 (length inner) in
+    let at = firstBad bad inner in
+    let needed = wordsFor sysex7 (length (taken bytes)) in
     writes
     (guard (ltb 16384 (length words)) 1 0
     ▷ guard (ltb 15 group) 16 0
     ▷ guard (badFrame bytes) 17 0
-    ▷ guard (ltb bad (length inner)) 18 (suc bad)
+    ▷ guard (ltb at (length inner)) 18 (suc at)
     ▷ guard (ltb (length words) needed) 14 0)
     words needed
-    (pack sysex7 group [] inner ++ drop needed words)
+    (pack sysex7 group [] (taken bytes) ++ drop needed words)
+
+-- the call: 80 to F7 are bad, and real-time bytes are no data
+unfoldable pub toSysex7 : List ℕ → ℕ → List ℕ → Answer ℕ × List ℕ
+toSysex7 bytes group words = toPackets badByte dataOf bytes group words

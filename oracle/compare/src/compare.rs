@@ -42,8 +42,19 @@ pub fn rests_on(input: &Input, ours: &Ours) -> Option<StandIn> {
         Kind::PayloadLent if behind || input.length() > 4 => Some(StandIn::Data),
         kind if kind.is_splice() && (behind || packs_shorter(input)) => Some(StandIn::Data),
         Kind::Needed => Some(StandIn::New),
+        Kind::Stream => stream_rests_on(&input.bytes),
         _ if too_big && ours.refusal == 16 && !index_too_big(input) => Some(StandIn::Ux),
         _ => None,
+    }
+}
+
+/// The same for a byte stream: one under 2 bytes, one without its frame, one with a byte that `u7` does not hold.
+fn stream_rests_on(bytes: &[u8]) -> Option<StandIn> {
+    match differences::framed(bytes) {
+        _ if bytes.len() < 2 => Some(StandIn::TooShort),
+        None => Some(StandIn::Order),
+        Some(data) if data.iter().any(|&byte| byte > 0x7F) => Some(StandIn::Ux),
+        Some(_) => None,
     }
 }
 

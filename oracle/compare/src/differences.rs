@@ -2,13 +2,14 @@
 use crate::answers::{Input, Kind, ENDED};
 use crate::layout::*;
 use crate::model;
+use std::ops::RangeInclusive;
 
 /// Where a difference stands.
 #[derive(Clone, Copy, PartialEq, Eq)]
 pub enum Place {
     /// Inside 01's domain of equality.
     Inside,
-    /// Outside it: ours refuses.
+    /// Outside it: ours refuses, or the call is outside the port.
     Outside,
     /// Only in what 01 does not compare: unused octets, words past the message.
     NotCompared,
@@ -59,7 +60,7 @@ pub const ONLY_QUERIES: [&str; 2] = ["D23", "D24"];
 
 /// Every other difference.
 #[rustfmt::skip]
-pub const ALL: [Difference; 37] = [
+pub const ALL: [Difference; 38] = [
     row("D1", "stream id goes to octet 3", Inside, Both, d1),
     row("D2a", "packets gained have no id (growing buffer)", Inside, Both, d2a),
     row("D2b", "packets gained keep the id that stood there", Inside, Both, d2b),
@@ -94,9 +95,10 @@ pub const ALL: [Difference; 37] = [
     row("D21", "field index too big", Outside, Both, d21),
     row("D22", "field value or group too big", Outside, Both, d22),
     row("S1", "SysEx7 message: D6 again", Outside, Both, s1),
-    row("S3", "byte stream: a byte above 7F panics", Outside, Both, s3),
+    row("S3", "byte stream: a byte of 80 to F6 panics", Outside, Both, s3),
     row("S4", "byte stream: what follows the first F7 is passed over", Outside, Both, s4),
     row("S5", "byte stream: a frame that is none, other words", Outside, Both, s5),
+    row("S6", "byte stream: a real-time byte panics", Outside, Both, s6),
 ];
 
 /// The payload size of a valid message.
@@ -554,10 +556,15 @@ pub fn framed(bytes: &[u8]) -> Option<&[u8]> {
     }
 }
 
-/// A byte above 7F before the first F7.
-fn s3(input: &Input) -> bool {
+/// A byte out of a range before the first F7.
+fn has_framed(input: &Input, range: RangeInclusive<u8>) -> bool {
     input.kind == Kind::Stream
-        && framed(&input.bytes).is_some_and(|data| data.iter().any(|&byte| byte > 0x7F))
+        && framed(&input.bytes).is_some_and(|data| data.iter().any(|byte| range.contains(byte)))
+}
+
+/// A byte above 7F before the first F7 that is no real-time byte.
+fn s3(input: &Input) -> bool {
+    has_framed(input, 0x80..=0xF6)
 }
 
 /// Bytes behind the first F7.
@@ -569,4 +576,9 @@ fn s4(input: &Input) -> bool {
 /// No F0 at the front or no F7 at all.
 fn s5(input: &Input) -> bool {
     input.kind == Kind::Stream && (input.bytes.len() < 2 || framed(&input.bytes).is_none())
+}
+
+/// A real-time byte before the first F7.
+fn s6(input: &Input) -> bool {
+    has_framed(input, 0xF8..=0xFF)
 }

@@ -19,6 +19,8 @@ pub fn run(counts: &mut Counts) -> Result<(), String> {
     splices(counts)?;
     payloads(counts)?;
     streams(counts)?;
+    stream_bytes(counts)?;
+    clocked_streams(counts)?;
     sizes(counts)?;
     pairs_of_edits(counts)?;
     edits_at_boundaries(counts)?;
@@ -347,18 +349,69 @@ fn payloads(counts: &mut Counts) -> Result<(), String> {
     Ok(())
 }
 
-/// Every stream of up to five bytes out of F0, F7, 00, 7F and 80.
+/// Every stream of up to five bytes out of F0, F7, 00, 7F, 80, F8 and FF.
 fn streams(counts: &mut Counts) -> Result<(), String> {
-    let letters = [0xF0, 0xF7, 0x00, 0x7F, 0x80];
+    let letters = [0xF0, 0xF7, 0x00, 0x7F, 0x80, 0xF8, 0xFF];
     for length in 0..=5_u32 {
-        for row in 0..5_usize.pow(length) {
+        for row in 0..7_usize.pow(length) {
             let bytes: Vec<u8> = (0..length)
-                .map(|place| letters[row / 5_usize.pow(place) % 5])
+                .map(|place| letters[row / 7_usize.pow(place) % 7])
                 .collect();
             compare(
                 &Input::with_bytes(Kind::Stream, &[0; 4], &bytes, &[0]),
                 counts,
             )?;
+        }
+    }
+    Ok(())
+}
+
+/// Every byte between F0 and F7, alone, among data bytes and among real-time bytes.
+fn stream_bytes(counts: &mut Counts) -> Result<(), String> {
+    for byte in 0..=0xFF {
+        for bytes in [
+            &[0xF0, byte, 0xF7][..],
+            &[0xF0, 1, byte, 2, 0xF7],
+            &[0xF0, 0xF8, byte, 0xFE, 0xF7],
+        ] {
+            compare(
+                &Input::with_bytes(Kind::Stream, &[0; 4], bytes, &[0]),
+                counts,
+            )?;
+        }
+    }
+    Ok(())
+}
+
+/// A stream of so many data bytes. A bit of `places` is a place before, between and behind them; a real-time byte stands at
+/// each one that is set.
+fn clocked(size: usize, places: usize) -> Vec<u8> {
+    let mut bytes = vec![0xF0];
+    for place in 0..=size {
+        if places >> place & 1 == 1 {
+            bytes.push(0xF8 + place as u8 % 8);
+        }
+        if place < size {
+            bytes.push(place as u8 + 1);
+        }
+    }
+    bytes.push(0xF7);
+    bytes
+}
+
+/// Streams of 0 to 13 data bytes with real-time bytes at every set of places, in words that the packets just fill, and in one
+/// word less.
+fn clocked_streams(counts: &mut Counts) -> Result<(), String> {
+    for size in 0..=13 {
+        let needed = 2 * SYSEX7.fewest(size).len();
+        for places in 0..2 << size {
+            let bytes = clocked(size, places);
+            for lent in [needed, needed - 1] {
+                compare(
+                    &Input::with_bytes(Kind::Stream, &vec![0x0909_0909; lent], &bytes, &[0]),
+                    counts,
+                )?;
+            }
         }
     }
     Ok(())

@@ -331,7 +331,7 @@ fn splice(input: &Input, ours: &Ours) -> Expected {
     }
 }
 
-/// Byte stream: the bytes up to the first F7 (S4), a panic at one above 7F (S3), texts of its own (S5).
+/// Byte stream: the bytes up to the first F7 (S4), a panic at one above 7F (S3, S6), texts of its own (S5).
 fn stream(input: &Input) -> Expected {
     let bytes = &input.bytes;
     match framed(bytes) {

@@ -397,3 +397,35 @@ pub fn stream(random: &mut Random) -> Input {
     let words: Vec<u32> = (0..room).map(|_| random.word()).collect();
     Input::with_bytes(Kind::Stream, &words, &bytes, &[group])
 }
+
+/// Puts a byte in at a place behind the first byte of a stream and before its last; in front, if it has no two.
+fn put_inside(random: &mut Random, bytes: &mut Vec<u8>, byte: u8) {
+    let last = bytes.len().saturating_sub(1);
+    bytes.insert(random.between(last.min(1), last), byte);
+}
+
+/// A real-time byte.
+fn real_time(random: &mut Random) -> u8 {
+    random.byte() | 0xF8
+}
+
+/// A question about a byte stream with real-time bytes between its ends: once in four with one of 80 to F7 too, once in six with
+/// a real-time byte before or behind the stream.
+pub fn clocked_stream(random: &mut Random) -> Input {
+    let mut input = stream(random);
+    let bytes = &mut input.bytes;
+    for _ in 0..random.pick(&[1, 1, 2, 3, 6, 12, 40]) {
+        let byte = real_time(random);
+        put_inside(random, bytes, byte);
+    }
+    match random.below(12) {
+        0..=2 => {
+            let byte = random.between(0x80, 0xF7) as u8;
+            put_inside(random, bytes, byte);
+        }
+        3 => bytes.insert(0, real_time(random)),
+        4 => bytes.push(real_time(random)),
+        _ => {}
+    }
+    input
+}

@@ -28,7 +28,8 @@ use random::Random;
 use std::time::{Duration, Instant};
 
 /// Runs the exhaustive part, the largest messages, then rounds of random inputs until the time is over. Inputs for ours
-/// alone have numbers of their own, so that the others are the same with and without them.
+/// alone, and byte streams with real-time bytes, have numbers of their own, so that the others are the same with and without
+/// them.
 fn compare_all(options: &Options, counts: &mut Counts) -> Result<(), String> {
     let start = Instant::now();
     exhaustive::run(counts)?;
@@ -39,8 +40,10 @@ fn compare_all(options: &Options, counts: &mut Counts) -> Result<(), String> {
     );
     let mut random = Random::new(options.seed);
     let mut apart = Random::new(!options.seed);
+    let mut clocked = Random::clocked(options.seed);
     sampled::largest(&mut random, counts)?;
     sampled::largest_origins(&mut apart, counts)?;
+    sampled::longest_streams(&mut clocked, counts)?;
     println!(
         "largest messages done, {:.1} s",
         start.elapsed().as_secs_f64()
@@ -52,6 +55,7 @@ fn compare_all(options: &Options, counts: &mut Counts) -> Result<(), String> {
     } {
         sampled::round(&mut random, counts)?;
         sampled::origins(&mut apart, counts)?;
+        sampled::clocked_streams(&mut clocked, counts)?;
         rounds += 1;
     }
     println!(

@@ -1,5 +1,5 @@
-//! The rules of 01, stated once more and plainly: what ours must answer for every input. It is a third opinion;
-//! it shares no text with either side.
+//! The rules of 01, with what 02 changed of them, stated once more and plainly: what ours must answer for every input. It is a
+//! third opinion; it shares no text with either side.
 use crate::answers::{Field, Input, Kind, Ours, ENDED};
 use crate::layout::*;
 
@@ -432,7 +432,8 @@ fn origin(input: &Input) -> Ours {
     }
 }
 
-/// Byte stream to SysEx7. Numbers are the group and the words lent.
+/// Byte stream to SysEx7. Between F0 and F7 a real-time byte, F8 to FF, is passed over, and one of 80 to F7 is refused;
+/// places count all bytes. The number is the group.
 fn stream(input: &Input) -> Ours {
     let (bytes, lent) = (&input.bytes, &input.words);
     let number = match bytes.as_slice() {
@@ -444,11 +445,13 @@ fn stream(input: &Input) -> Ours {
     if number != 0 {
         return Ours::refused(number, 0, lent);
     }
-    let data = &bytes[1..bytes.len() - 1];
-    if let Some(index) = data.iter().position(|&byte| byte >= 0x80) {
+    let inner = &bytes[1..bytes.len() - 1];
+    let bad = |byte: &u8| (0x80..=0xF7).contains(byte);
+    if let Some(index) = inner.iter().position(bad) {
         return Ours::refused(18, index as u64 + 1, lent);
     }
-    let packets = SYSEX7.fewest_form(input.numbers[0] as u32, 0, data);
+    let data: Vec<u8> = inner.iter().copied().filter(|&byte| byte < 0x80).collect();
+    let packets = SYSEX7.fewest_form(input.numbers[0] as u32, 0, &data);
     if packets.len() > lent.len() {
         return Ours::refused(14, 0, lent);
     }

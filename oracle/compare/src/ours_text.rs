@@ -52,8 +52,9 @@ fn values(line: &str, steps: &str, input: &Input) -> Option<Vec<u64>> {
         return Some(values);
     }
     let all = words(behind(line, "words")?);
-    match behind(line, "length") {
-        Some(length) => Some(compared(&all[..number(length) as usize])),
+    match behind(line, "length").map(|length| &all[..number(length) as usize]) {
+        Some(packets) if input.kind == Kind::Stream => Some(as_values(packets)),
+        Some(message) => Some(compared(message)),
         None => Some(as_values(&all)),
     }
 }

@@ -9,6 +9,11 @@ impl Random {
         Random(seed)
     }
 
+    /// Another generator for the same seed, for byte streams with real-time bytes.
+    pub fn clocked(seed: u64) -> Random {
+        Random(seed ^ 1 << 63)
+    }
+
     /// The next 64 bits.
     pub fn bits(&mut self) -> u64 {
         self.0 = self.0.wrapping_add(0x9E37_79B9_7F4A_7C15);

@@ -413,6 +413,8 @@ pub fn write(folder: &str, command: &str, seed: u64) -> Result<String, String> {
     add_messages(&mut sample, &mut random);
     add_rewrites(&mut sample, &mut random);
     sample.fill(150, || inputs::stream(&mut random));
+    let mut clocked = Random::clocked(seed);
+    sample.fill(2 * MORE_OF_EACH, || inputs::clocked_stream(&mut clocked));
     for bytes in (0..=66).chain([506, 507, 508, 53_247, 53_248, 53_249]) {
         sample.add(&Input::new(Kind::Needed, &[], &[bytes]));
     }

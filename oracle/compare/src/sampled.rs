@@ -64,6 +64,36 @@ pub fn origins(random: &mut Random, counts: &mut Counts) -> Result<(), String> {
     Ok(())
 }
 
+/// One round of random byte streams with real-time bytes.
+pub fn clocked_streams(random: &mut Random, counts: &mut Counts) -> Result<(), String> {
+    for _ in 0..300 {
+        compare(&inputs::clocked_stream(random), counts)?;
+    }
+    Ok(())
+}
+
+/// The longest byte streams: data bytes that just fill 16,384 words, one less and one more; without real-time bytes, with one
+/// behind each data byte, and with a thousand before them; also in one word more.
+pub fn longest_streams(random: &mut Random, counts: &mut Counts) -> Result<(), String> {
+    let most = MOST_WORDS / 2 * SYSEX7.room;
+    for size in [most - 1, most, most + 1] {
+        let data: Vec<u8> = (0..size).map(|_| random.byte() & 0x7F).collect();
+        let clocked: Vec<u8> = data.iter().flat_map(|&byte| [byte, 0xF8]).collect();
+        let late = [&[0xFE; 1000], &data[..]].concat();
+        for inner in [data, clocked, late] {
+            let bytes = [&[0xF0], &inner[..], &[0xF7]].concat();
+            for lent in [MOST_WORDS, MOST_WORDS + 1] {
+                let words = vec![0x0909_0909; lent];
+                compare(
+                    &Input::with_bytes(Kind::Stream, &words, &bytes, &[0]),
+                    counts,
+                )?;
+            }
+        }
+    }
+    Ok(())
+}
+
 /// A valid message of a number of packets, all but the last full or, if uneven, of 1 to 13 bytes.
 fn of_packets(random: &mut Random, packets: usize, last: usize, uneven: bool) -> Vec<u32> {
     let mut sizes = vec![13; packets];

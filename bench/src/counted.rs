@@ -57,6 +57,22 @@ fn origin(side: Side, words: &[u32], size: usize) -> Option<Box<dyn FnMut()>> {
     (side == Side::Port).then(|| Box::new(call) as Box<dyn FnMut()>)
 }
 
+/// A byte stream to SysEx7 packets. With a clock byte behind each data byte only ours takes it.
+fn stream(side: Side, size: usize, clock: bool) -> Option<Box<dyn FnMut()>> {
+    let mut room = original::Stream::new(&inputs::stream(size, false)).words();
+    let bytes = inputs::stream(size, clock);
+    let call: Box<dyn FnMut()> = match side {
+        Side::Port => Box::new(move || port::stream(black_box(&bytes), black_box(&mut room))),
+        _ if clock => return None,
+        Side::Bare => {
+            let theirs = original::Stream::new(bytes.leak());
+            Box::new(move || _ = black_box(black_box(&theirs).packets()))
+        }
+        Side::Checked => Box::new(move || _ = black_box(original::Stream::new(black_box(&bytes)).packets())),
+    };
+    Some(call)
+}
+
 /// A call that reads, or sets one byte. The check has no bare form.
 fn small(name: &str, side: Side, words: &[u32], size: usize) -> Option<Box<dyn FnMut()>> {
     type Call = fn(&mut [u32], &mut [u8], usize);
@@ -101,6 +117,8 @@ pub fn run(arguments: &[String]) -> bool {
         "packing" => Some(packing(side, &bytes, false)),
         "copy" => Some(packing(side, &bytes, true)),
         "origin" => origin(side, &words, size),
+        "stream" => stream(side, size, false),
+        "clocked_stream" => stream(side, size, true),
         name => small(name, side, &words, size),
     };
     let Some(mut call) = call else { return false };

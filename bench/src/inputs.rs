@@ -1,4 +1,7 @@
-//! The messages that are timed.
+//! The messages and byte streams that are timed.
+
+/// The data bytes of the longest byte stream. 16,384 words hold 49,152.
+pub const MOST_STREAM: usize = 49_000;
 
 /// So many payload bytes, none like its neighbour.
 pub fn bytes(size: usize) -> Vec<u8> {
@@ -53,4 +56,10 @@ pub fn uneven(bytes: &[u8]) -> Vec<u32> {
         std::iter::once(7).chain(bytes[7..].chunks(13).map(<[u8]>::len)).collect()
     };
     packets(bytes, &sizes)
+}
+
+/// A byte stream of so many data bytes: F0, bytes below 80 hex, F7. With a clock an F8 stands behind each data byte.
+pub fn stream(size: usize, clock: bool) -> Vec<u8> {
+    let data = bytes(size).into_iter().flat_map(|byte| [byte & 0x7F, 0xF8].into_iter().take(if clock { 2 } else { 1 }));
+    std::iter::once(0xF0).chain(data).chain(std::iter::once(0xF7)).collect()
 }

@@ -157,6 +157,26 @@ fn origin(words: &[u32], size: usize, floor: f64) {
     print_alone("origin in the middle", size, port, floor);
 }
 
+/// A byte stream to SysEx7 packets, and one with a clock byte behind each data byte, at which the original panics. The floor is a
+/// memmove of the packets. The original makes a new `Vec` each time.
+fn streams(size: usize) {
+    let (plain, clocked) = (inputs::stream(size, false), inputs::stream(size, true));
+    let theirs = original::Stream::new(&plain);
+    let words = theirs.words();
+    let floor = floor(&words);
+    let timed = |bytes: &[u8]| {
+        let mut room = vec![0; words.len()];
+        let time = best(|| port::stream(black_box(bytes), black_box(&mut room)));
+        assert_eq!(room, words);
+        time
+    };
+    let port = timed(&plain);
+    let bare = best(|| _ = black_box(black_box(&theirs).packets()));
+    let checked = best(|| _ = black_box(original::Stream::new(black_box(&plain)).packets()));
+    print(&Row { call: "byte stream", size, port, bare, checked, floor });
+    print_alone("byte stream with clock", size, timed(&clocked), floor);
+}
+
 /// All calls on a payload of so many bytes.
 fn run(size: usize) {
     let bytes = inputs::bytes(size);
@@ -168,6 +188,7 @@ fn run(size: usize) {
     splices(&bytes, &words, floor);
     packing(&bytes, floor);
     origin(&words, size, floor);
+    streams(size.min(inputs::MOST_STREAM));
 }
 
 /// The call that the arguments name, or the table, a size after the other.

@@ -1,7 +1,8 @@
 //! The original: the calls that a user of it makes.
 use midi2::inside;
+use midi2::sysex7::Sysex7;
 use midi2::sysex8::Sysex8;
-use midi2::Sysex;
+use midi2::{FromBytes, Sysex};
 
 /// `try_from`.
 #[inline(never)]
@@ -33,6 +34,28 @@ pub fn set_byte(words: &mut [u32], index: usize, value: u8) {
 #[inline(never)]
 pub fn pack(words: &mut [u32]) {
     inside::compact(&mut inside::sysex8(words));
+}
+
+/// A byte stream that `try_from` took.
+pub struct Stream<'a>(Sysex7<&'a [u8]>);
+
+impl<'a> Stream<'a> {
+    /// `try_from`.
+    #[inline(never)]
+    pub fn new(bytes: &'a [u8]) -> Stream<'a> {
+        Stream(Sysex7::try_from(bytes).expect("a byte stream"))
+    }
+
+    /// `from_bytes`: its packets, in a `Vec` that is made each time.
+    #[inline(never)]
+    pub fn packets(&self) -> Sysex7<Vec<u32>> {
+        Sysex7::from_bytes(self.0.clone())
+    }
+
+    /// The words of its packets.
+    pub fn words(&self) -> Vec<u32> {
+        inside::words_of7(&self.packets()).to_vec()
+    }
 }
 
 /// A message in a `Vec` with room for more.

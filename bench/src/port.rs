@@ -62,6 +62,7 @@ extern "C" {
         bytes_lent: usize,
         octet: usize,
     ) -> Origin;
+    fn latchbeacon_bytes_to_sysex7(bytes: *const u8, bytes_lent: usize, group: u8, words: Room, lent: usize) -> Number;
 }
 
 /// The check.
@@ -103,6 +104,13 @@ pub fn origin(words: &[u32], edits: &[usize], bytes: &[u8], octet: usize) -> (u8
     let answer = unsafe { latchbeacon_sysex8_origin(address, lent, lent, numbers, count, bytes.as_ptr(), bytes.len(), octet) };
     assert!(answer.refusal == 0);
     (answer.kind, answer.number, answer.index)
+}
+
+/// A byte stream to SysEx7 packets of group 0, which fill the words.
+pub fn stream(bytes: &[u8], words: &mut [u32]) {
+    let (to, lent) = (words.as_mut_ptr(), words.len());
+    let answer = unsafe { latchbeacon_bytes_to_sysex7(bytes.as_ptr(), bytes.len(), 0, to, lent) };
+    assert!(answer.refusal == 0 && answer.value == lent);
 }
 
 /// A message in a buffer with room for more.

@@ -1,13 +1,15 @@
 -- No two refusals share a number, and an answer is fixed by what it means. Assumes nothing.
 use mathlib.Core.Path.{_≡_, refl, sym, ap, _∙_}
-use Prim.Native.Nat.{ℕ}
+use mathlib.Core.Bool.{Bool, true, false}
+use Prim.Native.Nat.{ℕ, _<_}
+use lib.Dec.{lit<}
 use native.Mathlib.Omega.{arith}
 use Rattle.refusal.proofs.Tight.{once}
-use Rattle.refusal.specs.Answer.{Answer, gives, refused, Verdict, pass, _▷_}
+use Rattle.refusal.specs.Answer.{Answer, gives, refused, Verdict, pass, _▷_, guard}
 use Rattle.refusal.specs.Number.{numberOf, nameOf}
 use Rattle.refusal.specs.Meaning.{storedMeaning, byteMeaning}
 use Rattle.refusal.specs.declared.Refusal.{Refusal}
-use Rattle.refusal.specs.declared.Refusal.the-variants.{Long, Length, Short, Ragged, «Type», Complete, Begin, Continue, End, Count, Group, Stream, Range, Room, Status, Field, Frame, Byte, Spread, Overlap}
+use Rattle.refusal.specs.declared.Refusal.the-variants.{Long, Length, Short, Ragged, «Type», Complete, Begin, Continue, End, Count, Group, Stream, Range, Room, Status, Field, Frame, Byte, Spread, Overlap, Format, Twice, Full, Missing, Ring}
 use Rattle.refusal.specs.declared.Fault.{Fault}
 use Rattle.refusal.specs.declared.Stored.{Stored}
 use Rattle.refusal.specs.declared.Stored.the-variants as stored
@@ -37,9 +39,42 @@ name-of-number Frame = refl
 name-of-number Byte = refl
 name-of-number Spread = refl
 name-of-number Overlap = refl
+name-of-number Format = refl
+name-of-number Twice = refl
+name-of-number Full = refl
+name-of-number Missing = refl
+name-of-number Ring = refl
 
 pub number-once : (r s : Refusal) → numberOf r ≡ numberOf s → r ≡ s
 number-once r s e = sym (name-of-number r) ∙ ap nameOf e ∙ name-of-number s
+
+-- none is 0, which says "accepted" in a struct
+pub number-some : (r : Refusal) → 0 < numberOf r
+number-some Long = lit< tt
+number-some Length = lit< tt
+number-some Short = lit< tt
+number-some Ragged = lit< tt
+number-some «Type» = lit< tt
+number-some Complete = lit< tt
+number-some Begin = lit< tt
+number-some Continue = lit< tt
+number-some End = lit< tt
+number-some Count = lit< tt
+number-some Group = lit< tt
+number-some Stream = lit< tt
+number-some Range = lit< tt
+number-some Room = lit< tt
+number-some Status = lit< tt
+number-some Field = lit< tt
+number-some Frame = lit< tt
+number-some Byte = lit< tt
+number-some Spread = lit< tt
+number-some Overlap = lit< tt
+number-some Format = lit< tt
+number-some Twice = lit< tt
+number-some Full = lit< tt
+number-some Missing = lit< tt
+number-some Ring = lit< tt
 
 -- ---- answers
 
@@ -78,6 +113,20 @@ byte-back (byte.Refused fault) = ap byte.Refused (fault-back fault)
 
 pub byte-once : (x y : ByteRead) → byteMeaning x ≡ byteMeaning y → x ≡ y
 byte-once = once byteMeaning byteBack byte-back
+
+-- ---- answers whose refusals have names
+
+pub data Named {A : Type 0} : Answer A → Type 0 where
+  accepted : {value : A} → Named (gives value)
+  named : (r : Refusal) {place : ℕ} → Named (refused (numberOf r) place)
+
+pub by-guard : (b : Bool) (r : Refusal) (place : ℕ) → Named (guard b (numberOf r) place)
+by-guard true r place = named r
+by-guard false r place = accepted
+
+pub by-both : {A : Type 0} (v : Verdict) (answer : Answer A) → Named v → Named answer → Named (v ▷ answer)
+by-both (gives u) answer h k = k
+by-both (refused number place) answer (named r) k = named r
 
 -- ---- a value after a check
 

@@ -1,11 +1,14 @@
 -- What it is for a promise to be tight: any two outcomes that it allows are equal, and a wrong one is shut out. Assumes nothing.
-use mathlib.Core.Path.{_≡_, sym, ap, _∙_, subst}
-use mathlib.Core.Bool.{not}
+use mathlib.Core.Path.{_≡_, refl, sym, ap, _∙_, subst}
+use mathlib.Core.Bool.{Bool, true, false, not}
 use mathlib.Core.List.{List}
-use Prim.Native.Nat.{ℕ, _+_, _*_}
+use Prim.Native.Nat.{ℕ, suc, _+_, _*_, _≤_, _<_}
+use native.Mathlib.Nat.{le-trans, suc-mul, mul-suc, mul-le-mul-right, mul-le-mul-left}
+use native.Mathlib.Omega.{arith}
 use contract.Lifetimes.{Lfts}
 use denote.Triple.Clauses.{AtExit}
-use lib.Dec.{T, T-not, eqb, eqb-refl}
+use lib.Dec.{T, T-not, eqb, ltb, eqb-refl}
+use borrow.Author.Tests.{ltb-true, ltb-false}
 use borrow.Fn.Kinds.{Out, PK, RK, Dens, resT, endedOf}
 use Rattle.refusal.specs.Answer.{Answer, gives, refused}
 
@@ -46,7 +49,36 @@ Shuts {S = S} P a x = (κs : Lfts 0) (s : S κs) → P κs a x s → ⊥
 pub differ : {A : Type 0} (number : A → ℕ) {x y : A} → T (not (eqb (number x) (number y))) → x ≡ y → ⊥
 differ number {x} {y} t e = T-not (eqb (number x) (number y)) t (subst (λ (n : ℕ). T (eqb (number x) n)) (ap number e) (eqb-refl (number x)))
 
--- a number of an answer: an even one of its value, or an odd one of the refusal's number and place
+-- a number of an answer: an even one of its value, or an odd one of the refusal's number and place, one of its own for each two
+-- numbers (told-once)
+abbrev pub paired : ℕ → ℕ → ℕ
+paired n place = (n + place) * (n + place) + n
+
 abbrev pub told : {A : Type 0} → (A → ℕ) → Answer A → ℕ
 told number (gives value) = 2 * number value
-told number (refused n place) = 2 * (32 * place + n) + 1
+told number (refused n place) = 2 * paired n place + 1
+
+-- a square, and less than the way to the next one
+apart : (s t n m : ℕ) → n ≤ s → s < t → s * s + n ≡ t * t + m → ⊥
+apart s t n m h k e =
+    let up : suc s * suc s ≤ t * t = le-trans (mul-le-mul-right (suc s) k) (mul-le-mul-left t k) in
+    omega (arith, up, suc-mul s (suc s), mul-suc s s)
+
+paired-once : (n p m q : ℕ) → paired n p ≡ paired m q → (n ≡ m) × (p ≡ q)
+paired-once n p m q e = go (ltb (n + p) (m + q)) (ltb (m + q) (n + p)) refl refl
+  where
+    go : (a b : Bool) → ltb (n + p) (m + q) ≡ a → ltb (m + q) (n + p) ≡ b → (n ≡ m) × (p ≡ q)
+    go true b f g = absurd (apart (n + p) (m + q) n m (omega arith) (ltb-true _ _ f) e)
+    go false true f g = absurd (apart (m + q) (n + p) m n (omega arith) (ltb-true _ _ g) (sym e))
+    go false false f g =
+        let same : n + p ≡ m + q = omega (arith, ltb-false (n + p) (m + q) f, ltb-false (m + q) (n + p) g) in
+        let square = ap (λ (s : ℕ). s * s) same in
+        (omega (arith, square, e), omega (arith, square, e, same))
+
+pub told-once : {A : Type 0} (number : A → ℕ) → ((a b : A) → number a ≡ number b → a ≡ b) → (x y : Answer A) → told number x ≡ told number y → x ≡ y
+told-once number once (gives a) (gives b) e = ap gives (once a b (omega (arith, e)))
+told-once number once (gives a) (refused m q) e = absurd (omega (arith, e))
+told-once number once (refused n p) (gives b) e = absurd (omega (arith, e))
+told-once number once (refused n p) (refused m q) e =
+    let same = paired-once n p m q (omega (arith, e)) in
+    ap (λ (k : ℕ). refused k p) (same .0) ∙ ap (λ (k : ℕ). refused m k) (same .1)

@@ -4,7 +4,7 @@ use native.Mathlib.Omega.{arith}
 use contract.Lifetimes.{Lfts}
 use denote.Triple.Clauses.{AtExit}
 use borrow.Fn.Kinds.{endedOf}
-use Rattle.refusal.specs.declared.Refusal.the-variants.{Long, Overlap}
+use Rattle.refusal.specs.declared.Refusal.the-variants.{Long, Ring}
 use Rattle.refusal.proofs.Tight.{FixesResult}
 use Rattle.refusal.proofs.number.Kinds as number-kinds
 use Rattle.refusal.proofs.number.Reads as number
@@ -17,5 +17,5 @@ module _ (κs : Lfts 0) (s : AtExit (endedOf 0 number-kinds.ps number-kinds.r) �
   not-from-zero : number.Post κs (Long, tt) 0 s → ⊥
   not-from-zero p = omega (arith, p)
 
-  not-past-table : number.Post κs (Overlap, tt) 21 s → ⊥
+  not-past-table : number.Post κs (Ring, tt) 26 s → ⊥
   not-past-table p = omega (arith, p)

@@ -1,10 +1,11 @@
--- The numbers of document 01's table of refusals.
+-- The numbers of the refusals: 1 to 20 by document 01's table, 21 to 25 by document 02's T-02.
 -- Assumes nothing.
+use mathlib.Core.Bool.{cond}
 use mathlib.Core.List.{List, [], _∷_}
-use Prim.Native.Nat.{ℕ, _-_}
-use lib.ListN.{getD}
+use Prim.Native.Nat.{ℕ}
+use lib.Dec.{eqb}
 use Rattle.refusal.specs.declared.Refusal.{Refusal}
-use Rattle.refusal.specs.declared.Refusal.the-variants.{Long, Length, Short, Ragged, «Type», Complete, Begin, Continue, End, Count, Group, Stream, Range, Room, Status, Field, Frame, Byte, Spread, Overlap}
+use Rattle.refusal.specs.declared.Refusal.the-variants.{Long, Length, Short, Ragged, «Type», Complete, Begin, Continue, End, Count, Group, Stream, Range, Room, Status, Field, Frame, Byte, Spread, Overlap, Format, Twice, Full, Missing, Ring}
 
 abbrev pub numberOf : Refusal → ℕ
 numberOf Long = 1
@@ -27,11 +28,21 @@ numberOf Frame = 17
 numberOf Byte = 18
 numberOf Spread = 19
 numberOf Overlap = 20
+numberOf Format = 21
+numberOf Twice = 22
+numberOf Full = 23
+numberOf Missing = 24
+numberOf Ring = 25
 
--- the names in the table's order, and the name of a number
+-- all names, and the one among them that has a number (Long, where none has it)
 abbrev pub names : List Refusal
 names =
-    Long ∷ Length ∷ Short ∷ Ragged ∷ «Type» ∷ Complete ∷ Begin ∷ Continue ∷ End ∷ Count ∷ Group ∷ Stream ∷ Range ∷ Room ∷ Status ∷ Field ∷ Frame ∷ Byte ∷ Spread ∷ Overlap ∷ []
+    Long ∷ Length ∷ Short ∷ Ragged ∷ «Type» ∷ Complete ∷ Begin ∷ Continue ∷ End ∷ Count ∷ Group ∷ Stream ∷ Range ∷ Room ∷ Status ∷ Field ∷ Frame ∷ Byte ∷ Spread ∷ Overlap
+    ∷ Format ∷ Twice ∷ Full ∷ Missing ∷ Ring ∷ []
+
+abbrev pub nameIn : List Refusal → ℕ → Refusal
+nameIn [] n = Long
+nameIn (name ∷ others) n = cond (eqb (numberOf name) n) name (nameIn others n)
 
 abbrev pub nameOf : ℕ → Refusal
-nameOf n = getD names (n - 1) Long
+nameOf n = nameIn names n

@@ -1,8 +1,8 @@
-// The refusals of document 01, by name, and the answers that several calls share.
+// The refusals of documents 01 and 02, by name, and the answers that several calls share.
 ghost use mathlib.Core.Path.{_≡_};
 ghost use Rattle.refusal.specs.Number.{numberOf};
 
-// Why a call refuses, by the names of 01's table.
+// Why a call refuses: the names of 01's table, and those that 02's requests add.
 pub enum Refusal {
     Long,
     Length,
@@ -24,6 +24,11 @@ pub enum Refusal {
     Byte,
     Spread,
     Overlap,
+    Format,
+    Twice,
+    Full,
+    Missing,
+    Ring,
 }
 
 // A refusal with its place.
@@ -44,7 +49,7 @@ pub enum ByteRead {
     Refused(Fault),
 }
 
-// The number of a refusal in 01's table.
+// The number of a refusal.
 pub fn number(refusal: Refusal) -> u8
     ensures { λ r. ⌜ r ≡ numberOf refusal ⌝ }
 {
@@ -69,5 +74,10 @@ pub fn number(refusal: Refusal) -> u8
         Refusal::Byte => 18,
         Refusal::Spread => 19,
         Refusal::Overlap => 20,
+        Refusal::Format => 21,
+        Refusal::Twice => 22,
+        Refusal::Full => 23,
+        Refusal::Missing => 24,
+        Refusal::Ring => 25,
     }
 }

@@ -5,6 +5,8 @@ use Prim.Native.Nat.{ℕ, suc, _*_, _%_, _/_, _<_}
 use lib.Dec.{eqb, ltb, lit<}
 use lib.ListN.{length}
 use Rattle.refusal.specs.Answer.{Answer, gives, refused, Verdict, _▷_, guard, writes}
+use Rattle.refusal.proofs.Laws.{number-some, Named, named}
+use Rattle.refusal.proofs.Laws as laws
 use Rattle.ump.specs.Packet.{Shape, sysex7}
 use Rattle.ump.specs.Packing.{wordsFor}
 use Rattle.ump.specs.Check.{first, sweep, statusNumber, badType, badStatus, badCount, badGroup, badId, checkPackets, check, payloadOf}
@@ -16,6 +18,10 @@ use Rattle.ump.specs.Stream.{badFrame, between, badByte, firstBad, dataO
 pub data Numbered {A : Type 0} : Answer A → Type 0 where
   accepted : {value : A} → Numbered (gives value)
   numbered : {number place : ℕ} → 0 < number → Numbered (refused number place)
+
+pub from-named : {A : Type 0} {answer : Answer A} → Named answer → Numbered answer
+from-named laws.accepted = accepted
+from-named (named r) = numbered (number-some r)
 
 by-guard : (b : Bool) (number place : ℕ) → 0 < number → Numbered (guard b number place)
 by-guard true number place h = numbered h

@@ -1,0 +1,11 @@
+pub mod Records
+pub mod Parts
+pub mod Grammar
+pub mod Dumps
+pub mod Flagging
+pub mod Entering
+pub mod Checks
+pub mod Standing
+pub mod Forms
+pub mod Unique
+pub mod ShutOut

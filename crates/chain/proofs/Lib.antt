@@ -1,0 +1,15 @@
+pub mod Pigeons
+pub mod Walks
+pub mod Making
+pub mod Orders
+pub mod Weights
+pub mod Needs
+pub mod Replay
+pub mod Outside
+pub mod Sizing
+pub mod Steps
+pub mod Extents
+pub mod Describing
+pub mod Named
+pub mod Unique
+pub mod ShutOut

@@ -1,0 +1,13 @@
+pub mod Zeros
+pub mod LayingOut
+pub mod Copying
+pub mod Editing
+pub mod Rooms
+pub mod Groups
+pub mod Chains
+pub mod Traces
+pub mod Splices
+pub mod Unique
+pub mod ShutOut
+pub mod Calls
+pub mod Promises

@@ -1,4 +1,4 @@
-// The body of program sx8list: standard input to standard output.
+// The body of program sx8list: standard input to standard output. Crate restorer, the body of sx8restore, reads its input by it too.
 ghost use Prim.Native.Nat.{_≤_};
 ghost use lib.ListN.{length};
 ghost use Rattle.console.specs.Input.{sizeOf};
@@ -7,13 +7,13 @@ use libc::STDOUT_FILENO;
 use listing::Listed;
 
 // What was read: so many bytes, or a read failed.
-enum Input {
+pub enum Input {
     Bytes(usize),
     Failed,
 }
 
 // Reads standard input until the buffer is full, the input ends or a read fails; a read may bring less than there is room for.
-fn read_input(buffer: &mut [u8]) -> Input
+pub fn read_input(buffer: &mut [u8]) -> Input
     ensures { λ r. ⌜ sizeOf r ≤ length (now (buffer .exit)) ⌝ }
 {
     let mut size = 0;

@@ -13,7 +13,7 @@ use Rattle.ump.specs.Word.{wordsOf}
 use Rattle.ump.specs.Packet.{sysex8}
 use Rattle.ump.specs.Check.{Summary, check, checked}
 use Rattle.listing.specs.Listing.{wordsIn, checkedIn, listing, textOf, messageText, refusalLine}
-use Rattle.listing.specs.Steps.{Wrote, over, wordsAfter, load, list}
+use Rattle.listing.specs.Steps.{Wrote, over, wordsAfter, load, list, refuse}
 use Rattle.listing.proofs.Texts.{wrote-front}
 
 -- ---- by the tests of the code
@@ -115,3 +115,20 @@ listed-fits bytes words text after text′ size e = go (ltb (length words) 16384
         let n : size ≡ length (listing bytes) = let z = ap (λ o. o .0) f in cc in
         let t = ap (λ o. length (o .1 .1)) f in
         omega (arith, n, t, length-append (listing bytes) (drop (length (listing bytes)) text))
+
+-- ---- the line of a refusal alone
+
+module _ (number place : ℕ) (text : List ℕ) where
+  pub refuse-no-text : length text < 64 → (refused 14 0, text) ≡ refuse number place text
+  unfolding refuse
+  refuse-no-text h = rw (lt-ltb _ _ h)
+
+  pub refuse-enough : 64 ≤ length text → refuse number place text ≡ (gives (length (refusalLine number place)), over (refusalLine number place) text)
+  unfolding refuse
+  refuse-enough h = rw (le-ltb _ _ h)
+
+  pub refuse-given : 64 ≤ length text → {text′ : List ℕ} {size : ℕ} → Wrote text 0 text′ size (refusalLine number place)
+      → (gives size, text′) ≡ refuse number place text
+  refuse-given h {text′} {size} w =
+      let n : size ≡ length (refusalLine number place) = omega (arith, w .far) in
+      rw (refuse-enough h, n, wrote-front w refl)

@@ -9,7 +9,7 @@ use lib.ListN.{length, take, drop}
 use Rattle.refusal.specs.Answer.{Answer, gives, refused}
 use Rattle.ump.specs.Check.{Summary}
 use Rattle.ump.specs.Single.{Kind, complete, start, continue, end, unexpectedEnd}
-use Rattle.listing.specs.Listing.{wordsIn, checkedIn, listing}
+use Rattle.listing.specs.Listing.{wordsIn, checkedIn, refusalLine, listing}
 
 -- a piece was written into a text, which is otherwise as it was, and this is how far it goes
 pub record Wrote (before : List ℕ) (at : ℕ) (after : List ℕ) (to : ℕ) (piece : List ℕ) : Type 0 where
@@ -42,3 +42,8 @@ unfoldable pub list : List ℕ → List ℕ → List ℕ → Answer ℕ × (List
 list bytes words text =
     cond (ltb (length words) 16384 || ltb (length text) 98560) (refused 14 0, (words, text))
     (gives (length (listing bytes)), (wordsAfter (wordsIn bytes) words, over (listing bytes) text))
+
+-- the line of a refusal alone: Room where fewer than 64 bytes are lent; else its size, and the text after
+unfoldable pub refuse : ℕ → ℕ → List ℕ → Answer ℕ × List ℕ
+refuse number place text =
+    cond (ltb (length text) 64) (refused 14 0, text) (gives (length (refusalLine number place)), over (refusalLine number place) text)

@@ -3,6 +3,7 @@ ghost use mathlib.Core.Path.{_≡_};
 ghost use Prim.Native.Nat.{ℕ, _+_, _*_, _/_, _≤_, _<_};
 ghost use lib.ListN.{length};
 ghost use Rattle.refusal.specs.Answer.{refused, pass};
+ghost use Rattle.refusal.specs.Number.{numberOf};
 ghost use Rattle.ump.specs.Packet.{sysex8, joined};
 ghost use Rattle.ump.specs.Check.{check};
 ghost use Rattle.message.specs.Meaning.{checkMeaning8};
@@ -16,6 +17,7 @@ use message::sysex8::Checked;
 use packet::Kind;
 use packet::sysex8::Packet;
 use packet::sysex8::PacketRead;
+use refusal::Fault;
 
 // Writes the name of a status; status 3 is always `end`.
 fn put_status(text: &mut [u8], at: usize, kind: Kind) -> usize
@@ -101,6 +103,16 @@ pub(crate) fn put_message(text: &mut [u8], words: &[u32], size: usize) -> usize
 }
 
 // Writes the line of a refusal.
+pub(crate) fn put_fault(text: &mut [u8], fault: Fault) -> usize
+    requires { ⌜ 64 ≤ length (now text) ⌝ }
+    ensures { λ r. ⌜ Wrote (now (text .entry)) 0 (now (text .exit)) r (refusalLine (numberOf (fault .refusal)) (fault .place)) ⌝ }
+{
+    let refusal = fault.refusal;
+    let number = refusal::number(refusal) as usize;
+    put_numbers(text, 0, b"refused ", number, b"at ", fault.place)
+}
+
+// Writes the line of a check that refuses.
 pub(crate) fn put_refusal(text: &mut [u8], checked: Checked) -> usize
     requires { ⌜ 98560 ≤ length (now text) ⌝ }
     ensures { λ r. ⌜ ((number place : ℕ) → checkMeaning8 checked ≡ refused number place → Wrote (now (text .entry)) 0 (now (text .exit)) r (refusalLine number place)) ⌝ }
@@ -108,7 +120,5 @@ pub(crate) fn put_refusal(text: &mut [u8], checked: Checked) -> usize
     let Checked::Refused(fault) = checked else {
         return 0;
     };
-    let refusal = fault.refusal;
-    let number = refusal::number(refusal) as usize;
-    put_numbers(text, 0, b"refused ", number, b"at ", fault.place)
+    put_fault(text, fault)
 }

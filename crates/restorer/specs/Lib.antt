@@ -1,0 +1,3 @@
+-- What program sx8restore reads as a number, and what it writes.
+pub mod Argument
+pub mod Output

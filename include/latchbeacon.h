@@ -1,8 +1,9 @@
 /*
- * latchbeacon: MIDI 2.0 SysEx8 bulk dumps: check, read, set, pack and splice, in buffers that the caller lends.
+ * latchbeacon: MIDI 2.0 SysEx8 bulk dumps: check, read, set, pack and splice, and restore from a store, in buffers that the caller
+ * lends.
  *
- * Every call answers for any words, bytes and numbers. It takes no memory, keeps nothing and never stops the program; calls on
- * buffers that do not overlap may run at the same time.
+ * Every call answers for any words, bytes and numbers. It takes no memory but stack, keeps nothing and never stops the program;
+ * calls on buffers that do not overlap may run at the same time.
  *
  * Buffers. A buffer is a pointer and the number of its items, which are there for the length of the call. A pointer is never
  * null, not even for no items: any aligned address will do there. Two buffers of one call do not overlap. No buffer that a call
@@ -45,13 +46,19 @@ enum latchbeacon_refusal {
     LATCHBEACON_STREAM = 12,   /* SysEx8 id differs from the first */
     LATCHBEACON_RANGE = 13,    /* from above to, or to above the payload size; byte index not below it; a number within an edit above
                                   53,248; octet index not below 4 times the words lent */
-    LATCHBEACON_ROOM = 14,     /* words needed exceed words lent for output (payload out: bytes) */
+    LATCHBEACON_ROOM = 14,     /* words needed exceed words lent for output (payload out: bytes; store: also of a dump on the way) */
     LATCHBEACON_STATUS = 15,   /* single packet, status over 3 */
     LATCHBEACON_FIELD = 16,    /* field index, or value for a field, too big */
     LATCHBEACON_FRAME = 17,    /* stream under 2 bytes, first not F0 or last not F7 */
     LATCHBEACON_BYTE = 18,     /* a byte of 80 to F7 hex between them */
     LATCHBEACON_SPREAD = 19,   /* packing would need more words than the message has */
-    LATCHBEACON_OVERLAP = 20   /* edits not in the stated order */
+    LATCHBEACON_OVERLAP = 20,  /* edits not in the stated order */
+    LATCHBEACON_FORMAT = 21,   /* store: unknown kind, short body, misplaced record, group above 15, or an edit's from below the to of
+                                  the edit before it */
+    LATCHBEACON_TWICE = 22,    /* store: a number used again */
+    LATCHBEACON_FULL = 23,     /* store: a 257th dump */
+    LATCHBEACON_MISSING = 24,  /* following bases from a dump comes to a number not held; or it is not held itself */
+    LATCHBEACON_RING = 25      /* following bases from a dump comes back to a number already passed */
 };
 
 /* What a packet is. An unexpected end is SysEx8's alone. */
@@ -134,6 +141,21 @@ typedef struct {
     size_t number;
     size_t index;
 } latchbeacon_origin;
+
+/* A dump of a store: whether it is a delta; the group and stream id of the whole dump that it rests on, or is; the number of its
+ * base (0 for a whole dump); its payload size in bytes; the words to lend for restoring it; and how many bases are followed to the
+ * whole dump (0 for a whole dump). */
+typedef struct {
+    uint8_t refusal;
+    size_t place;
+    bool delta;
+    uint8_t group;
+    uint8_t id;
+    size_t base;
+    size_t size;
+    size_t words;
+    size_t steps;
+} latchbeacon_dump;
 
 /* Where a reader of a payload stands: packet, byte within it, and how many bytes are to be read. */
 typedef struct {
@@ -289,6 +311,35 @@ size_t latchbeacon_sysex8_remaining(const uint32_t *words, size_t words_lent, si
  * Refusals, in this order: 1, 16 (group over 15), 17, 18 (its place counts all bytes, real-time bytes too; F0 has index 0), 14. */
 latchbeacon_number latchbeacon_bytes_to_sysex7(const uint8_t *bytes, size_t bytes_lent, uint8_t group, uint32_t *words,
                                                size_t words_lent);
+
+/* ---- the chain: a store of dumps, each whole or a delta of another --------------------------------------------------------------
+ * A store is the `store_size` bytes in use. They are records: a byte of kind (hex), then a body. Numbers have two bytes, highest first.
+ *   01        a whole dump. Body: number, group (1 byte, 0 to 15), stream id (1 byte)
+ *   02        a delta. Body: number, number of its base
+ *   03        an edit of the delta before it. Body: from, to, which count in the base's payload
+ *   81 to 8D  1 to 13 bytes of data, of the whole dump or edit before them
+ * Edits stand behind their delta, or its edits and their data, in ascending order, each ending no later than the next begins. Data
+ * stands behind a whole dump, an edit or other data. A base may stand behind its delta. No two dumps have one number, and there are
+ * at most 256. A store without bytes is good.
+ *
+ * The payload of a whole dump is its data. That of a delta is its base's payload with the ranges of all its edits replaced at once,
+ * each by its data. Every place is 0. */
+
+/* Checks the store and answers how many dumps it has. Refusals, each over the whole store before the next: 21, 22, 23. */
+latchbeacon_number latchbeacon_store_check(const uint8_t *store, size_t store_size);
+
+/* Describes the dump of this number. Its `words` are what latchbeacon_store_restore must be lent at least: the most that the dump, or
+ * one that it rests on, needs. The message itself takes latchbeacon_sysex8_words_needed(size), which may be fewer. It may be more
+ * than 16,384; then the dump cannot be restored.
+ * Refusals, in this order: 21, 22, 23, 24, 25, then 13 (an edit reversed or past its base's payload). */
+latchbeacon_dump latchbeacon_store_describe(const uint8_t *store, size_t store_size, size_t number);
+
+/* Restores the dump of this number: its base first, then its edits. Writes its message in fewest-packet form, with the group and
+ * stream id of its whole dump, answers its length in words, and zeroes all lent words past it. It takes up to 171 KB of stack.
+ * Refusals, in this order: 1, 21, 22, 23, 24, 25; then from the whole dump up: of the whole dump 14, of each delta 13, then 14 (the
+ * dump itself, all its edits done, needs more words than lent). */
+latchbeacon_number latchbeacon_store_restore(const uint8_t *store, size_t store_size, size_t number, uint32_t *words,
+                                             size_t words_lent);
 
 #ifdef __cplusplus
 }

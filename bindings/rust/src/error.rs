@@ -4,7 +4,7 @@ use std::fmt;
 
 /// Why a call refuses: the refusals of the library by name.
 ///
-/// Refusals that are added later have numbers from 21.
+/// Refusals that are added later have numbers from 26.
 ///
 /// ```
 /// use latchbeacon::Refusal;
@@ -43,7 +43,7 @@ pub enum Refusal {
     /// 13: from above to, or to above the payload size; byte index not below it; a number within an edit above 53,248; octet index
     /// not below 4 times the words lent.
     Range,
-    /// 14: words needed exceed words lent for output (payload out: bytes).
+    /// 14: words needed exceed words lent for output (payload out: bytes; store: also of a dump on the way).
     Room,
     /// 15: single packet, status over 3.
     Status,
@@ -57,68 +57,89 @@ pub enum Refusal {
     Spread,
     /// 20: edits not in the stated order.
     Overlap,
+    /// 21: of a store: unknown kind, short body, misplaced record, group above 15, or an edit's from below the to of the edit before
+    /// it.
+    Format,
+    /// 22: of a store: a number used again.
+    Twice,
+    /// 23: of a store: a 257th dump.
+    Full,
+    /// 24: following bases from a dump comes to a number that the store does not hold; or it does not hold the dump itself.
+    Missing,
+    /// 25: following bases from a dump comes back to a number already passed.
+    Ring,
     /// Any other number: a refusal that a later library has and these bindings do not know.
     Unknown(u8),
 }
 
-// Names and meanings; the refusal of number n is entry n - 1.
-const TABLE: [(Refusal, &str, &str); 20] = [
-    (Refusal::Long, "Long", "more than 16,384 words lent"),
-    (Refusal::Length, "Length", "message length above the words lent"),
-    (Refusal::Short, "Short", "under 4 words (SysEx7: 2)"),
-    (Refusal::Ragged, "Ragged", "not whole packets"),
-    (Refusal::Type, "Type", "a packet of another type"),
-    (Refusal::Complete, "Complete", "one packet, its status not 0 (complete)"),
-    (Refusal::Begin, "Begin", "several packets, status of the first not 1 (start)"),
-    (Refusal::Continue, "Continue", "status of an inner packet not 2 (continue)"),
-    (Refusal::End, "End", "status of the last of several packets not 3 (end)"),
-    (Refusal::Count, "Count", "packet count of SysEx8 0 or 15, of SysEx7 over 6"),
-    (Refusal::Group, "Group", "group differs from the first packet's"),
-    (Refusal::Stream, "Stream", "SysEx8 stream id differs from the first packet's"),
+// Numbers, names and meanings, in the order of the numbers.
+const TABLE: [(u8, Refusal, &str, &str); 25] = [
+    (1, Refusal::Long, "Long", "more than 16,384 words lent"),
+    (2, Refusal::Length, "Length", "message length above the words lent"),
+    (3, Refusal::Short, "Short", "under 4 words (SysEx7: 2)"),
+    (4, Refusal::Ragged, "Ragged", "not whole packets"),
+    (5, Refusal::Type, "Type", "a packet of another type"),
+    (6, Refusal::Complete, "Complete", "one packet, its status not 0 (complete)"),
+    (7, Refusal::Begin, "Begin", "several packets, status of the first not 1 (start)"),
+    (8, Refusal::Continue, "Continue", "status of an inner packet not 2 (continue)"),
+    (9, Refusal::End, "End", "status of the last of several packets not 3 (end)"),
+    (10, Refusal::Count, "Count", "packet count of SysEx8 0 or 15, of SysEx7 over 6"),
+    (11, Refusal::Group, "Group", "group differs from the first packet's"),
+    (12, Refusal::Stream, "Stream", "SysEx8 stream id differs from the first packet's"),
     (
+        13,
         Refusal::Range,
         "Range",
         "from above to, or to above the payload size; byte index not below it; a number within an edit above 53,248; octet index \
          not below 4 times the words lent",
     ),
-    (Refusal::Room, "Room", "words needed exceed words lent for output (payload out: bytes)"),
-    (Refusal::Status, "Status", "single packet, status over 3"),
-    (Refusal::Field, "Field", "field index, or value for a field, too big"),
-    (Refusal::Frame, "Frame", "stream under 2 bytes, first not F0 or last not F7"),
-    (Refusal::Byte, "Byte", "a byte of 80 to F7 hex between F0 and F7"),
-    (Refusal::Spread, "Spread", "packing would need more words than the message has"),
-    (Refusal::Overlap, "Overlap", "edits not in the stated order"),
+    (14, Refusal::Room, "Room", "words needed exceed words lent for output (payload out: bytes; store: also of a dump on the way)"),
+    (15, Refusal::Status, "Status", "single packet, status over 3"),
+    (16, Refusal::Field, "Field", "field index, or value for a field, too big"),
+    (17, Refusal::Frame, "Frame", "stream under 2 bytes, first not F0 or last not F7"),
+    (18, Refusal::Byte, "Byte", "a byte of 80 to F7 hex between F0 and F7"),
+    (19, Refusal::Spread, "Spread", "packing would need more words than the message has"),
+    (20, Refusal::Overlap, "Overlap", "edits not in the stated order"),
+    (
+        21,
+        Refusal::Format,
+        "Format",
+        "unknown kind, short body, misplaced record, group above 15, or an edit's from below the to of the edit before it",
+    ),
+    (22, Refusal::Twice, "Twice", "a number of the store used again"),
+    (23, Refusal::Full, "Full", "a 257th dump in the store"),
+    (24, Refusal::Missing, "Missing", "following bases comes to a number that the store does not hold"),
+    (25, Refusal::Ring, "Ring", "following bases comes back to a number already passed"),
 ];
 
 impl Refusal {
-    /// Every refusal that has a name, in the order of the numbers, which are 1 to 20.
+    /// Every refusal that has a name, in the order of the numbers.
     pub fn all() -> impl ExactSizeIterator<Item = Refusal> {
-        TABLE.iter().map(|entry| entry.0)
+        TABLE.iter().map(|entry| entry.1)
     }
 
     /// The refusal of a number.
     pub fn from_number(number: u8) -> Refusal {
-        let entry = usize::from(number).checked_sub(1).and_then(|index| TABLE.get(index));
-        entry.map_or(Refusal::Unknown(number), |entry| entry.0)
+        TABLE.iter().find(|entry| entry.0 == number).map_or(Refusal::Unknown(number), |entry| entry.1)
     }
 
     /// Its number.
     pub fn number(self) -> u8 {
         match self {
             Refusal::Unknown(number) => number,
-            named => TABLE.iter().zip(1..).find(|(entry, _)| entry.0 == named).map_or(0, |found| found.1),
+            named => TABLE.iter().find(|entry| entry.1 == named).map_or(0, |entry| entry.0),
         }
     }
 
     /// Its name.
     pub fn name(self) -> &'static str {
-        TABLE.iter().find(|entry| entry.0 == self).map_or("Unknown", |entry| entry.1)
+        TABLE.iter().find(|entry| entry.1 == self).map_or("Unknown", |entry| entry.2)
     }
 
     /// When it is given, in a few words.
     pub fn meaning(self) -> &'static str {
         let unknown = "a refusal that these bindings do not know";
-        TABLE.iter().find(|entry| entry.0 == self).map_or(unknown, |entry| entry.2)
+        TABLE.iter().find(|entry| entry.1 == self).map_or(unknown, |entry| entry.3)
     }
 }
 

@@ -69,6 +69,19 @@ pub(crate) struct Origin {
 }
 
 #[repr(C)]
+pub(crate) struct Dump {
+    refusal: u8,
+    place: usize,
+    pub(crate) delta: bool,
+    pub(crate) group: u8,
+    pub(crate) id: u8,
+    pub(crate) base: usize,
+    pub(crate) size: usize,
+    pub(crate) words: usize,
+    pub(crate) steps: usize,
+}
+
+#[repr(C)]
 struct Cursor {
     refusal: u8,
     place: usize,
@@ -133,6 +146,10 @@ extern "C" {
     fn latchbeacon_sysex8_remaining(words: *const u32, words_lent: usize, packet: usize, byte: usize, remaining: usize) -> usize;
     fn latchbeacon_bytes_to_sysex7(bytes: *const u8, bytes_lent: usize, group: u8, words: *mut u32,
                                    words_lent: usize) -> Number;
+    fn latchbeacon_store_check(store: *const u8, store_size: usize) -> Number;
+    fn latchbeacon_store_describe(store: *const u8, store_size: usize, number: usize) -> Dump;
+    fn latchbeacon_store_restore(store: *const u8, store_size: usize, number: usize, words: *mut u32,
+                                 words_lent: usize) -> Number;
 }
 
 // An answer of the library that may be a refusal.
@@ -161,7 +178,7 @@ macro_rules! answers {
     };
 }
 
-answers!(Number, Packet, Message, Change, EditGrowth, Range, Origin, Cursor);
+answers!(Number, Packet, Message, Change, EditGrowth, Range, Origin, Dump, Cursor);
 
 // The value of an answer of one number, as the type that it fits: the library's answer is never too big for it.
 #[inline]
@@ -389,4 +406,25 @@ pub(crate) fn bytes_to_sysex7(bytes: &[u8], group: u8, words: &mut [u32]) -> Res
     let (address, lent) = (words.as_mut_ptr(), words.len());
     // SAFETY: `bytes` is a slice; `words` is a slice that is lent to this call alone, so they do not overlap.
     value(unsafe { latchbeacon_bytes_to_sysex7(bytes.as_ptr(), bytes.len(), group, address, lent) })
+}
+
+// ---- the chain
+
+// Checks a store; answers how many dumps it has.
+pub(crate) fn store_check(store: &[u8]) -> Result<usize, Error> {
+    // SAFETY: `store` is a slice.
+    value(unsafe { latchbeacon_store_check(store.as_ptr(), store.len()) })
+}
+
+// Describes a dump of a store.
+pub(crate) fn store_describe(store: &[u8], number: usize) -> Result<Dump, Error> {
+    // SAFETY: `store` is a slice.
+    unsafe { latchbeacon_store_describe(store.as_ptr(), store.len(), number) }.accepted()
+}
+
+// Restores a dump of a store; answers the length of its message.
+pub(crate) fn store_restore(store: &[u8], number: usize, words: &mut [u32]) -> Result<usize, Error> {
+    let (address, lent) = (words.as_mut_ptr(), words.len());
+    // SAFETY: `store` is a slice; `words` is a slice that is lent to this call alone, so they do not overlap.
+    value(unsafe { latchbeacon_store_restore(store.as_ptr(), store.len(), number, address, lent) })
 }

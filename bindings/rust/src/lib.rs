@@ -1,4 +1,4 @@
-//! MIDI 2.0 SysEx8 bulk dumps: check, read, set, pack and splice, in words that the caller lends.
+//! MIDI 2.0 SysEx8 bulk dumps: check, read, set, pack and splice, and restore from a store, in words that the caller lends.
 //!
 //! This crate is a safe skin over the static library `latchbeacon`, whose calls are proved to meet their contracts for every
 //! input. It has no other dependencies. It links on x86-64 Linux.
@@ -26,6 +26,8 @@
 //! assert_eq!((error.name(), error.number(), error.place), ("Range", 13, 0));
 //! # Ok::<(), latchbeacon::Error>(())
 //! ```
+//!
+//! A [`Store`] has many dumps, each whole or a delta of another, and restores one of them to such words.
 //!
 //! # Limits
 //!
@@ -79,6 +81,7 @@ mod message;
 mod origin;
 mod packet;
 mod payload;
+mod store;
 pub mod sysex7;
 pub mod sysex8;
 
@@ -88,6 +91,7 @@ pub use message::{Message, Summary, View};
 pub use origin::Origin;
 pub use packet::Kind;
 pub use payload::{Cursor, Payload};
+pub use store::{Basis, Description, Store};
 pub use sysex7::bytes_to_sysex7;
 
 // The example of the README runs as a doc test.

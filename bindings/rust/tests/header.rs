@@ -278,7 +278,7 @@ fn differences(header: &str, bindings: &str) -> Vec<String> {
 // The declarations are the header's.
 #[test]
 fn declarations_are_those_of_the_header() {
-    assert_eq!(read_bindings(BINDINGS).len(), 47, "38 functions and 9 structs");
+    assert_eq!(read_bindings(BINDINGS).len(), 51, "41 functions and 10 structs");
     let differences = differences(HEADER, BINDINGS);
     assert!(differences.is_empty(), "the bindings differ from include/latchbeacon.h:\n{}", differences.join("\n"));
 }
@@ -339,6 +339,13 @@ fn a_change_of_a_declaration_is_seen() {
         ("bytes: *mut u8, bytes_lent: usize) -> Number", "bytes: *mut u8) -> Number"),
         ("    pub(crate) from: usize,\n    pub(crate) to: usize,", "    pub(crate) to: usize,\n    pub(crate) from: usize,"),
         ("    ended: bool,", "    ended: u8,"),
+        ("    pub(crate) delta: bool,", "    pub(crate) delta: u8,"),
+        (
+            "    pub(crate) words: usize,\n    pub(crate) steps: usize,",
+            "    pub(crate) steps: usize,\n    pub(crate) words: usize,",
+        ),
+        ("store_size: usize, number: usize) -> Dump;", "number: usize, store_size: usize) -> Dump;"),
+        ("number: usize, words: *mut u32", "number: usize, words: *const u32"),
         ("    pub(crate) id: u8,\n", ""),
         ("#[repr(C)]\npub(crate) struct Change", "pub(crate) struct Change"),
     ];

@@ -24,7 +24,7 @@ use Rattle.latchbeacon.proofs.Worker.{readAs, numberRead, changeRead, r
 
 -- ---- reading a struct gives back the answer, as no refusal has the number 0
 
-read-refused : {A : Type 0} (number place : ℕ) (value : A) → 0 < number → readAs number place value ≡ refused number place
+pub read-refused : {A : Type 0} (number place : ℕ) (value : A) → 0 < number → readAs number place value ≡ refused number place
 read-refused number place value h = rw (ne-eqb number 0 (λ q. omega arith))
 
 pub number-read : (answer : Answer ℕ) → Numbered answer → numberRead (numberAnswer answer) ≡ answer

@@ -6,3 +6,5 @@ pub mod Worker
 pub mod Demand
 pub mod Writer
 pub mod RealTime
+pub mod Restorer
+pub mod Banks

@@ -19,6 +19,9 @@ use Rattle.ump.specs.Origin.{originOf, originIn, origin}
 use Rattle.ump.specs.Reader.{row, walk, places, unread, nth, reader}
 use Rattle.ump.specs.Samples.{alone, message2, bytes6}
 use Rattle.edit.specs.Growth.{growthOf}
+use Rattle.store.specs.Store.{isData, bodySize, recordsAfter, followsBy, allowedBy, wellFormed, dataIn, patchesIn, dumpOf, dumpsIn, twice, sound, held}
+use Rattle.store.specs.Samples as store
+use Rattle.chain.specs.Restore.{roomed, outside, rebuilt, restored, sizes, described, describe}
 use Rattle.latchbeacon.specs.declared.answers.NumberAnswer.{NumberAnswer}
 use Rattle.latchbeacon.specs.declared.answers.PacketAnswer.{PacketAnswer}
 use Rattle.latchbeacon.specs.declared.answers.MessageAnswer.{MessageAnswer}
@@ -28,6 +31,7 @@ use Rattle.latchbeacon.specs.declared.answers.RangeAnswer.{RangeAnswer}
 use Rattle.latchbeacon.specs.declared.answers.OriginAnswer.{OriginAnswer}
 use Rattle.latchbeacon.specs.declared.answers.CursorAnswer.{CursorAnswer}
 use Rattle.latchbeacon.specs.declared.answers.ReadAnswer.{ReadAnswer}
+use Rattle.latchbeacon.specs.declared.answers.DumpAnswer.{DumpAnswer}
 use Rattle.latchbeacon.proofs.fields.latchbeacon_bit.Reads as bit
 use Rattle.latchbeacon.proofs.packets.latchbeacon_sysex8_packet.Kinds as packet-kinds
 use Rattle.latchbeacon.proofs.packets.latchbeacon_sysex8_packet.Reads as packet
@@ -43,6 +47,8 @@ use Rattle.latchbeacon.proofs.cursors.latchbeacon_sysex8_open.Kinds as 
 use Rattle.latchbeacon.proofs.cursors.latchbeacon_sysex8_open.Reads as opened
 use Rattle.latchbeacon.proofs.cursors.latchbeacon_sysex8_next.Kinds as next-kinds
 use Rattle.latchbeacon.proofs.cursors.latchbeacon_sysex8_next.Reads as next
+use Rattle.latchbeacon.proofs.chains.latchbeacon_store_describe.Kinds as describe-kinds
+use Rattle.latchbeacon.proofs.chains.latchbeacon_store_describe.Reads as describe-promise
 
 abbrev signed : ℤ → ℕ
 signed (pos n) = 2 * n
@@ -173,3 +179,22 @@ read-on : ShutOut 1 next-kinds.ps next-kinds.r next.Post
     × (x ≡ record { ended = false; value = 0x42; packet = 0; byte = 1; remaining = 0 }))
 unfolding nth unread places walk row sizeOf octets payloadAt
 read-on κs a x s w p = differ (λ (r : ReadAnswer). cond (r .ended) 1 0) tt (rw (w .0, w .1, w .2, w .3, w .4) at p)
+
+-- ---- a dump: dump 1 of 14 bytes, and dump 2 over it without the first two; a dump that is its own base
+
+abbrev shortened : List ℕ
+shortened = 0x01 ∷ 0 ∷ 1 ∷ 2 ∷ 7 ∷ 0x8D ∷ (replicate 13 0x41 ++ (0x81 ∷ 0x42 ∷ (store.bare 2 1 ++ store.edit 0 2)))
+
+-- the words are those that its base needs, and not its own alone
+dump-words : ShutOut 1 describe-kinds.ps describe-kinds.r describe-promise.Post
+    (λ κs a x s. (a .0 .now ≡ shortened) × (a .1 .0 ≡ 2)
+    × (x ≡ record { refusal = 0; place = 0; delta = true; group = 2; id = 7; base = 1; size = 12; words = 4; steps = 1 }))
+unfolding isData bodySize recordsAfter followsBy allowedBy wellFormed dataIn patchesIn dumpOf dumpsIn twice sound held roomed outside rebuilt restored sizes described describe replaced joined packetsFor
+dump-words κs a x s w p = differ (λ (r : DumpAnswer). r .words) tt (rw (w .0, w .1, w .2) at p)
+
+-- a refused dump has no base
+dump-base : ShutOut 1 describe-kinds.ps describe-kinds.r describe-promise.Post
+    (λ κs a x s. (a .0 .now ≡ store.bare 1 1) × (a .1 .0 ≡ 1)
+    × (x ≡ record { refusal = 25; place = 0; delta = false; group = 0; id = 0; base = 1; size = 0; words = 0; steps = 0 }))
+unfolding isData bodySize recordsAfter followsBy allowedBy wellFormed dataIn patchesIn dumpOf dumpsIn twice sound held roomed outside rebuilt restored sizes described describe replaced joined packetsFor
+dump-base κs a x s w p = differ (λ (r : DumpAnswer). r .base) tt (rw (w .0, w .1, w .2) at p)

@@ -77,6 +77,12 @@ use Rattle.latchbeacon.proofs.cursors.latchbeacon_sysex8_remaining.Kind
 use Rattle.latchbeacon.proofs.cursors.latchbeacon_sysex8_remaining.Reads as sysex8-remaining
 use Rattle.latchbeacon.proofs.streams.latchbeacon_bytes_to_sysex7.Kinds as bytes-to-sysex7-kinds
 use Rattle.latchbeacon.proofs.streams.latchbeacon_bytes_to_sysex7.Reads as bytes-to-sysex7
+use Rattle.latchbeacon.proofs.chains.latchbeacon_store_check.Kinds as store-check-kinds
+use Rattle.latchbeacon.proofs.chains.latchbeacon_store_check.Reads as store-check
+use Rattle.latchbeacon.proofs.chains.latchbeacon_store_describe.Kinds as store-describe-kinds
+use Rattle.latchbeacon.proofs.chains.latchbeacon_store_describe.Reads as store-describe
+use Rattle.latchbeacon.proofs.chains.latchbeacon_store_restore.Kinds as store-restore-kinds
+use Rattle.latchbeacon.proofs.chains.latchbeacon_store_restore.Reads as store-restore
 
 bit-unique : FixesResult 0 bit-kinds.ps bit-kinds.r bit.Post
 bit-unique κs a x y s t p q = p ∙ sym q
@@ -191,3 +197,12 @@ sysex8-remaining-unique κs a x y s t p q = p ∙ sym q
 
 bytes-to-sysex7-unique : FixesOutcome 2 bytes-to-sysex7-kinds.ps bytes-to-sysex7-kinds.r bytes-to-sysex7.Post (λ κs s. s .1 .1 .0 .now)
 bytes-to-sysex7-unique κs a x y s t p q = both-fixed (λ r. r) (λ r r′ e. e) p q
+
+store-check-unique : FixesResult 1 store-check-kinds.ps store-check-kinds.r store-check.Post
+store-check-unique κs a x y s t p q = p ∙ sym q
+
+store-describe-unique : FixesResult 1 store-describe-kinds.ps store-describe-kinds.r store-describe.Post
+store-describe-unique κs a x y s t p q = p ∙ sym q
+
+store-restore-unique : FixesOutcome 2 store-restore-kinds.ps store-restore-kinds.r store-restore.Post (λ κs s. s .1 .1 .0 .now)
+store-restore-unique κs a x y s t p q = both-fixed (λ r. r) (λ r r′ e. e) p q

@@ -1,7 +1,8 @@
 -- The structs that the exported calls answer: the number of the refusal, 0 if the call is accepted, its place, and the values, which
 -- are 0 where it is refused.
 -- Assumes nothing.
-use mathlib.Core.Bool.{true, false}
+use mathlib.Core.Bool.{Bool, true, false}
+use mathlib.Core.Option.{Option, none, some}
 use mathlib.Core.List.{List}
 use Prim.Native.Nat.{ℕ}
 use lib.IntN.{ℤ, pos}
@@ -13,6 +14,7 @@ use Rattle.ump.specs.Splice.{Spliced}
 use Rattle.ump.specs.Edits.{Range}
 use Rattle.ump.specs.Origin.{Origin, headerOctet, carried, dumpByte, editByte, filler, zeroed, untouched}
 use Rattle.ump.specs.Reader as paper
+use Rattle.chain.specs.Restore.{Description}
 use Rattle.latchbeacon.specs.declared.answers.NumberAnswer.{NumberAnswer}
 use Rattle.latchbeacon.specs.declared.answers.PacketAnswer.{PacketAnswer}
 use Rattle.latchbeacon.specs.declared.answers.MessageAnswer.{MessageAnswer}
@@ -22,6 +24,7 @@ use Rattle.latchbeacon.specs.declared.answers.RangeAnswer.{RangeAnswer}
 use Rattle.latchbeacon.specs.declared.answers.OriginAnswer.{OriginAnswer}
 use Rattle.latchbeacon.specs.declared.answers.CursorAnswer.{CursorAnswer}
 use Rattle.latchbeacon.specs.declared.answers.ReadAnswer.{ReadAnswer}
+use Rattle.latchbeacon.specs.declared.answers.DumpAnswer.{DumpAnswer}
 
 -- a call that writes: the struct of its answer, and what is lent as it is after the call
 abbrev pub leaving : {A B : Type 0} → (A → B) → A × List ℕ → B × List ℕ
@@ -96,3 +99,28 @@ stepAnswer paper.ended cursor =
 
 abbrev pub readAnswer : paper.Read → ReadAnswer
 readAnswer read = stepAnswer (read .step) (read .cursor)
+
+-- whether a dump is a delta, and its base, 0 where it is whole
+abbrev pub isDelta : Option ℕ → Bool
+isDelta none = false
+isDelta (some base) = true
+
+abbrev pub baseNumber : Option ℕ → ℕ
+baseNumber none = 0
+baseNumber (some base) = base
+
+abbrev pub dumpAnswer : Answer Description → DumpAnswer
+dumpAnswer (gives dump) =
+    record {
+      refusal = 0;
+      place = 0;
+      delta = isDelta (dump .base);
+      group = dump .group;
+      id = dump .id;
+      base = baseNumber (dump .base);
+      size = dump .size;
+      words = dump .words;
+      steps = dump .steps;
+    }
+dumpAnswer (refused number place) =
+    record { refusal = number; place = place; delta = false; group = 0; id = 0; base = 0; size = 0; words = 0; steps = 0 }

@@ -1,5 +1,6 @@
 // What the exported calls answer, and how the answers of the libraries become that.
 ghost use mathlib.Core.Path.{_≡_};
+ghost use Rattle.refusal.specs.Answer.{gives};
 ghost use Rattle.refusal.specs.Meaning.{faultOf, storedMeaning, byteMeaning};
 ghost use Rattle.bit_ops.specs.Meaning.{bitMeaning, wordMeaning, setMeaning};
 ghost use Rattle.packet.specs.Meaning.{kindMeaning, packetMeaning8, packetMeaning7};
@@ -8,10 +9,16 @@ ghost use Rattle.splice.specs.Meaning.{repackedMeaning, splicedMeaning};
 ghost use Rattle.edit.specs.Meaning.{grownMeaning, movedMeaning, originMeaning};
 ghost use Rattle.reader.specs.Meaning.{openMeaning, readMeaning};
 ghost use Rattle.stream.specs.Meaning.{writtenMeaning};
-ghost use Rattle.latchbeacon.specs.Answers.{numberAnswer, doneAnswer, kindCode, packetAnswer, messageAnswer, changeAnswer, growthAnswer, rangeAnswer, originAnswer, cursorAnswer, readAnswer};
+ghost use Rattle.store.specs.Meaning.{checkedMeaning};
+ghost use Rattle.chain.specs.Meaning.{descriptionMeaning, describedMeaning};
+ghost use Rattle.restore.specs.Meaning.{restoredMeaning};
+ghost use Rattle.latchbeacon.specs.Answers.{numberAnswer, doneAnswer, kindCode, packetAnswer, messageAnswer, changeAnswer, growthAnswer, rangeAnswer, originAnswer, cursorAnswer, readAnswer, dumpAnswer};
 use bit_ops::BitRead;
 use bit_ops::FieldSet;
 use bit_ops::WordRead;
+use chain::Basis;
+use chain::Described;
+use chain::Description;
 use edit::Grown;
 use edit::Moved;
 use edit::OctetOrigin;
@@ -24,11 +31,13 @@ use reader::Step;
 use refusal::ByteRead;
 use refusal::Fault;
 use refusal::Stored;
+use restore::Restored;
 use splice::sysex8::Repacked;
 use splice::sysex8::Spliced;
+use store::Checked;
 use stream::Written;
 
-// A number: a byte, a field or a word with a field set, a size in bytes, a length in words; 0 where a call only stores.
+// A number: a byte, a field or a word with a field set, a size in bytes, a length in words, a count of dumps; 0 where a call only stores.
 #[repr(C)]
 pub struct NumberAnswer {
     pub refusal: u8,
@@ -114,6 +123,21 @@ pub struct ReadAnswer {
     pub packet: usize,
     pub byte: usize,
     pub remaining: usize,
+}
+
+// A dump of a store: whether it is a delta, the group and stream id of its whole dump, its base, 0 for a whole dump, its payload size,
+// the words that restoring it needs, and how many bases are followed to its whole dump.
+#[repr(C)]
+pub struct DumpAnswer {
+    pub refusal: u8,
+    pub place: usize,
+    pub delta: bool,
+    pub group: u8,
+    pub id: u8,
+    pub base: usize,
+    pub size: usize,
+    pub words: usize,
+    pub steps: usize,
 }
 
 // A number that is given.
@@ -216,6 +240,26 @@ pub(crate) fn written(answer: Written) -> NumberAnswer
     match answer {
         Written::Words(words) => given(words),
         Written::Refused(fault) => refused(fault),
+    }
+}
+
+// The answer of the check of a store.
+pub(crate) fn checked(answer: Checked) -> NumberAnswer
+    ensures { λ r. ⌜ r ≡ numberAnswer (checkedMeaning answer) ⌝ }
+{
+    match answer {
+        Checked::Dumps(count) => given(count),
+        Checked::Refused(fault) => refused(fault),
+    }
+}
+
+// The answer of restoring a dump.
+pub(crate) fn restored(answer: Restored) -> NumberAnswer
+    ensures { λ r. ⌜ r ≡ numberAnswer (restoredMeaning answer) ⌝ }
+{
+    match answer {
+        Restored::Words(words) => given(words),
+        Restored::Refused(fault) => refused(fault),
     }
 }
 
@@ -489,5 +533,66 @@ pub(crate) fn read(answer: Read) -> ReadAnswer
             byte: cursor.byte,
             remaining: cursor.remaining,
         },
+    }
+}
+
+// A dump that is described, a delta or not, with its base.
+fn dump(description: Description, delta: bool, base: usize) -> DumpAnswer
+    ensures { λ r. ⌜ r ≡ record {
+      refusal = 0;
+      place = 0;
+      delta = delta;
+      group = description .group;
+      id = description .id;
+      base = base;
+      size = description .size;
+      words = description .words;
+      steps = description .steps;
+    } ⌝ }
+{
+    DumpAnswer {
+        refusal: 0,
+        place: 0,
+        delta,
+        group: description.group,
+        id: description.id,
+        base,
+        size: description.size,
+        words: description.words,
+        steps: description.steps,
+    }
+}
+
+// What a dump says.
+fn description(found: Description) -> DumpAnswer
+    ensures { λ r. ⌜ r ≡ dumpAnswer (gives (descriptionMeaning found)) ⌝ }
+{
+    let basis = found.basis;
+    match basis {
+        Basis::Whole => dump(found, false, 0),
+        Basis::Delta(base) => dump(found, true, base),
+    }
+}
+
+// The answer of describing a dump.
+pub(crate) fn described(answer: Described) -> DumpAnswer
+    ensures { λ r. ⌜ r ≡ dumpAnswer (describedMeaning answer) ⌝ }
+{
+    match answer {
+        Described::Dump(found) => description(found),
+        Described::Refused(fault) => {
+            let refusal = fault.refusal;
+            DumpAnswer {
+                refusal: refusal::number(refusal),
+                place: fault.place,
+                delta: false,
+                group: 0,
+                id: 0,
+                base: 0,
+                size: 0,
+                words: 0,
+                steps: 0,
+            }
+        }
     }
 }

@@ -2,6 +2,7 @@
 // each answer is a struct with the number of the refusal, 0 if the call is accepted, its place and the values, which are 0 where it
 // is refused.
 mod answers;
+mod chains;
 mod cursors;
 mod edits;
 mod fields;

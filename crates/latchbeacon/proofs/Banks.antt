@@ -1,0 +1,67 @@
+-- What is said of restoring and describing a dump, over the promises of the exported calls. Assumes nothing.
+use mathlib.Core.Path.{_≡_, refl, sym, ap, _∙_}
+use mathlib.Core.Option.{Option, none, some}
+use mathlib.Core.List.{List, []}
+use Prim.Native.Nat.{ℕ}
+use Rattle.refusal.specs.Answer.{Answer, gives, refused}
+use Rattle.ump.proofs.Numbered.{Numbered, numbered, from-named}
+use Rattle.chain.specs.Restore.{restore, Description, describe}
+use Rattle.chain.specs.Chained.{Chained}
+use Rattle.chain.specs.Audit.{AuditedDump}
+use Rattle.chain.proofs.Named.{restore-named, describe-named}
+use Rattle.restore.proofs.Chains as laws
+use Rattle.restore.proofs.Chains.{Promised}
+use Rattle.restore.proofs.Splices as splices
+use Rattle.latchbeacon.specs.Answers.{leaving, numberAnswer, dumpAnswer}
+use Rattle.latchbeacon.proofs.Worker.{numberRead, family}
+use Rattle.latchbeacon.proofs.Demand as demand
+use Rattle.latchbeacon.proofs.Demand.{read-refused, number-read, read-leaving, lent}
+use Rattle.latchbeacon.proofs.Restorer.{dumpRead, Restores, Describes}
+
+-- each answer is read back from its struct
+dump-given : (d : Description) (base : Option ℕ) → d .base ≡ base → dumpRead (dumpAnswer (gives d)) ≡ gives d
+dump-given d none e = rw e
+dump-given d (some base) e = rw e
+
+dump-read : (answer : Answer Description) → Numbered answer → dumpRead (dumpAnswer answer) ≡ answer
+dump-read (gives d) h = dump-given d (d .base) refl
+dump-read (refused number place) (numbered h) = read-refused number place _ h
+
+promised : Promised Restores Describes
+promised =
+    record {
+      restores = λ {store = store} {n} {words} r.
+          let g = r .given in
+          read-leaving numberAnswer numberRead (restore store n words) (rw (g .0, g .1, g .2, r .left) at (r .promise)) (r .answer-is)
+          (number-read _ (from-named (restore-named store n words)));
+      describes = λ {store = store} {n} d.
+          let g = d .given in
+          sym (d .answer-is) ∙ ap dumpRead (rw (g .0, g .1) at (d .promise)) ∙ dump-read (describe store n) (from-named (describe-named store n));
+      can-restore = λ {store = store} {n} {words} {answer} {left} e. record {
+        lifetimes = ([], ([], tt));
+        arguments = (lent store, (n, (lent words, tt)));
+        said = numberAnswer answer;
+        exit = (lent store, (n, (lent left, tt)));
+        promise = sym (ap (leaving numberAnswer) e);
+        given = (refl, refl, refl);
+        answer-is = number-read answer (from-named (rw (ap (λ (o : Answer ℕ × List ℕ). o .0) e) at (restore-named store n words)));
+        left = refl;
+      };
+      can-describe = λ {store = store} {n} {answer} e. record {
+        lifetimes = ([], tt);
+        arguments = (lent store, (n, tt));
+        said = dumpAnswer answer;
+        exit = (lent store, (n, tt));
+        promise = sym (ap dumpAnswer e);
+        given = (refl, refl);
+        answer-is = dump-read answer (from-named (rw e at (describe-named store n)));
+        left = tt;
+      };
+    }
+
+pub chained : Chained Restores Describes
+chained = laws.chained promised
+
+-- the calls that edit a message are the exported ones
+pub audited : AuditedDump Restores (family .calls)
+audited = splices.audited promised (λ words len patches fits. demand.audited .demand3 fits)

@@ -1,0 +1,40 @@
+-- The exported calls that restore and describe a dump, with any outcome that their promises allow. Definitions alone. Assumes nothing.
+use mathlib.Core.Path.{_≡_}
+use mathlib.Core.Bool.{cond}
+use mathlib.Core.Option.{none, some}
+use Rattle.refusal.specs.Answer.{Answer}
+use Rattle.refusal.proofs.Called.{Called}
+use Rattle.chain.specs.Restore.{Description}
+use Rattle.chain.specs.Chained.{Restorer, Describer}
+use Rattle.restore.proofs.Calls.{restoreGiven, describeGiven}
+use Rattle.latchbeacon.specs.declared.answers.DumpAnswer.{DumpAnswer}
+use Rattle.latchbeacon.proofs.Worker.{readAs, numberRead}
+use Rattle.latchbeacon.proofs.chains.latchbeacon_store_restore.Kinds as restore-kinds
+use Rattle.latchbeacon.proofs.chains.latchbeacon_store_restore.Reads as exported-restore
+use Rattle.latchbeacon.proofs.chains.latchbeacon_store_describe.Kinds as describe-kinds
+use Rattle.latchbeacon.proofs.chains.latchbeacon_store_describe.Reads as exported-describe
+
+-- the struct of a dump, read
+abbrev pub dumpRead : DumpAnswer → Answer Description
+dumpRead said =
+    readAs (said .refusal) (said .place)
+    (record {
+      base = cond (said .delta) (some (said .base)) none;
+      group = said .group;
+      id = said .id;
+      size = said .size;
+      words = said .words;
+      steps = said .steps;
+    })
+
+-- `latchbeacon_store_restore` is called on this store, this number and these words; its struct is read so, and it leaves these words
+abbrev pub Restores : Restorer
+Restores store n words answer left =
+    Called 2 restore-kinds.ps restore-kinds.r exported-restore.Post (restoreGiven store n words)
+    (λ κs said. numberRead said) (λ κs exit. exit .1 .1 .0 .now ≡ left) answer
+
+-- `latchbeacon_store_describe` is called on this store and this number; its struct is read so
+abbrev pub Describes : Describer
+Describes store n answer =
+    Called 1 describe-kinds.ps describe-kinds.r exported-describe.Post (describeGiven store n)
+    (λ κs said. dumpRead said) (λ κs exit. Unit {0}) answer

@@ -1,5 +1,5 @@
-# Sourced by run, record, bench/run and bench/count, from the project's root: finds the original files and the tools, and builds a
-# program over the original in target/oracle. Nothing is fetched.
+# Sourced by run, restore, record, bench/run and bench/count, from the project's root: finds the original files and the tools, and
+# builds a program over the original in target/oracle. Nothing is fetched.
 
 oracle_folder=target/oracle
 
@@ -82,16 +82,22 @@ oracle_lay_out() {
     oracle_sums "before the build"
 }
 
+# Finds the library $1 and the tools.
+oracle_tools() {
+    [ -f "$1" ] || oracle_stop "no library at $1 (make it with: rt staticlib latchbeacon)"
+    LATCHBEACON_LIBRARY=$(realpath "$1")
+    export LATCHBEACON_LIBRARY
+    . tools/x86_64.sh
+    mkdir -p "$oracle_folder"
+    x86_64_tools >"$oracle_folder/.tools" || oracle_stop "$(cat "$oracle_folder/.tools")"
+}
+
 # Builds the program $1 against the library $2; further arguments go to cargo. The program's path is left in
 # oracle_program.
 oracle_build() {
     local program=$1 library=$2 profile=debug
     shift 2
-    [ -f "$library" ] || oracle_stop "no library at $library (make it with: rt staticlib latchbeacon)"
-    LATCHBEACON_LIBRARY=$(realpath "$library")
-    export LATCHBEACON_LIBRARY
-    . tools/x86_64.sh
-    x86_64_tools >"$oracle_folder/.tools" || oracle_stop "$(cat "$oracle_folder/.tools")"
+    oracle_tools "$library"
     (cd "$oracle_folder" && cargo build --offline --quiet --target-dir target -p "$program" "$@") || oracle_stop "the build failed"
     oracle_sums "after the build"
     case " $* " in *" --release "*) profile=release ;; esac

@@ -1,5 +1,5 @@
 //! One call so many times, so that the instructions that it takes can be counted from outside.
-use crate::{inputs, original, port};
+use crate::{chains, inputs, original, port};
 use std::hint::black_box;
 
 /// Who is called: ours, the original's bare call, or the original with its check before it.
@@ -73,6 +73,26 @@ fn stream(side: Side, size: usize, clock: bool) -> Option<Box<dyn FnMut()>> {
     Some(call)
 }
 
+/// A call of a store of dumps: restore, check or describe, of the long chain, of a whole dump, of three small dumps. Ours alone.
+fn store(name: &str, side: Side, size: usize) -> Option<Box<dyn FnMut()>> {
+    let (call, kind) = name.split_once('_')?;
+    let store = match kind {
+        _ if side != Side::Port => return None,
+        "chain" => chains::long(size),
+        "whole" => chains::whole(size),
+        "small" => chains::small(size),
+        _ => return None,
+    };
+    let (bytes, last) = (store.bytes, store.dumps - 1);
+    let mut words = vec![0; port::describe(&bytes, last).words];
+    Some(match call {
+        "restore" => Box::new(move || _ = black_box(port::restore(black_box(&bytes), last, black_box(&mut words)))),
+        "check" => Box::new(move || _ = black_box(port::check_store(black_box(&bytes)))),
+        "describe" => Box::new(move || _ = black_box(port::describe(black_box(&bytes), last))),
+        _ => return None,
+    })
+}
+
 /// A call that reads, or sets one byte. The check has no bare form.
 fn small(name: &str, side: Side, words: &[u32], size: usize) -> Option<Box<dyn FnMut()>> {
     type Call = fn(&mut [u32], &mut [u8], usize);
@@ -119,7 +139,7 @@ pub fn run(arguments: &[String]) -> bool {
         "origin" => origin(side, &words, size),
         "stream" => stream(side, size, false),
         "clocked_stream" => stream(side, size, true),
-        name => small(name, side, &words, size),
+        name => small(name, side, &words, size).or_else(|| store(name, side, size)),
     };
     let Some(mut call) = call else { return false };
     (0..times).for_each(|_| call());

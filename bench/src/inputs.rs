@@ -1,4 +1,4 @@
-//! The messages and byte streams that are timed.
+//! The messages, byte streams and stores that are timed.
 
 /// The data bytes of the longest byte stream. 16,384 words hold 49,152.
 pub const MOST_STREAM: usize = 49_000;
@@ -62,4 +62,43 @@ pub fn uneven(bytes: &[u8]) -> Vec<u32> {
 pub fn stream(size: usize, clock: bool) -> Vec<u8> {
     let data = bytes(size).into_iter().flat_map(|byte| [byte & 0x7F, 0xF8].into_iter().take(if clock { 2 } else { 1 }));
     std::iter::once(0xF0).chain(data).chain(std::iter::once(0xF7)).collect()
+}
+
+/// A store of dumps, and the payload of its last one.
+pub struct Store {
+    pub bytes: Vec<u8>,
+    pub dumps: usize,
+    pub payload: Vec<u8>,
+}
+
+/// A record of two numbers.
+fn record(kind: u8, first: usize, second: usize) -> [u8; 5] {
+    let ([a, b], [c, d]) = ((first as u16).to_be_bytes(), (second as u16).to_be_bytes());
+    [kind, a, b, c, d]
+}
+
+/// Bytes in data records, all but the last full.
+fn data(bytes: &[u8]) -> Vec<u8> {
+    bytes.chunks(13).flat_map(|chunk| [&[0x80 + chunk.len() as u8], chunk].concat()).collect()
+}
+
+/// A chain: dump 0 is whole, of so many bytes, and each of `deltas` more rests on the one before it. Each has so many edits, evenly
+/// apart, of 8 bytes by 7, 8 or 9 in turn, so that the size stays about the same.
+pub fn chain(size: usize, deltas: usize, edits: usize) -> Store {
+    let mut payload = bytes(size);
+    let mut store = [record(0x01, 0, 0).to_vec(), data(&payload)].concat();
+    for number in 1..=deltas {
+        store.extend(record(0x02, number, number - 1));
+        let ranges: Vec<(usize, Vec<u8>)> = (0..edits)
+            .map(|edit| ((size - 20) / edits * edit + number % 11, vec![number as u8; 7 + (number + edit) % 3]))
+            .collect();
+        for (from, bytes) in &ranges {
+            store.extend(record(0x03, *from, from + 8));
+            store.extend(data(bytes));
+        }
+        for (from, bytes) in ranges.into_iter().rev() {
+            payload.splice(from..from + 8, bytes);
+        }
+    }
+    Store { bytes: store, dumps: deltas + 1, payload }
 }

@@ -1,5 +1,7 @@
-//! Times the original and the port on the same inputs in one run: ns per call, best of many, and ratios. With arguments it does one
-//! call so many times (counted.rs).
+//! Times the original and the port on the same inputs in one run: ns per call, best of many, and ratios; then the calls of a store of
+//! dumps, which the port alone has. With the word `chain` it times these alone, with more words it does one call so many times
+//! (counted.rs).
+mod chains;
 mod counted;
 mod inputs;
 mod original;
@@ -191,11 +193,14 @@ fn run(size: usize) {
     streams(size.min(inputs::MOST_STREAM));
 }
 
-/// The call that the arguments name, or the table, a size after the other.
+/// The call that the arguments name, or the tables, a size after the other.
 fn main() {
     let arguments: Vec<String> = std::env::args().skip(1).collect();
+    if arguments == ["chain"] {
+        return chains::run();
+    }
     if !arguments.is_empty() {
-        assert!(counted::run(&arguments), "CALL SIDE SIZE TIMES");
+        assert!(counted::run(&arguments), "chain, or CALL SIDE SIZE TIMES");
         return;
     }
     println!("| call | bytes | port, ns | original, ns | ratio | try_from + call, ns | ratio | memmove, ns | ratio |");
@@ -203,4 +208,6 @@ fn main() {
     for size in SIZES {
         run(size);
     }
+    println!();
+    chains::run();
 }

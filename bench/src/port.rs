@@ -34,6 +34,21 @@ struct Origin {
     index: usize,
 }
 
+/// A dump of a store.
+#[repr(C)]
+pub struct Dump {
+    refusal: u8,
+    place: usize,
+    delta: bool,
+    group: u8,
+    id: u8,
+    base: usize,
+    size: usize,
+    /// The words to lend for restoring it.
+    pub words: usize,
+    steps: usize,
+}
+
 type Words = *const u32;
 type Room = *mut u32;
 
@@ -63,6 +78,9 @@ extern "C" {
         octet: usize,
     ) -> Origin;
     fn latchbeacon_bytes_to_sysex7(bytes: *const u8, bytes_lent: usize, group: u8, words: Room, lent: usize) -> Number;
+    fn latchbeacon_store_check(store: *const u8, store_size: usize) -> Number;
+    fn latchbeacon_store_describe(store: *const u8, store_size: usize, number: usize) -> Dump;
+    fn latchbeacon_store_restore(store: *const u8, store_size: usize, number: usize, words: Room, lent: usize) -> Number;
 }
 
 /// The check.
@@ -111,6 +129,28 @@ pub fn stream(bytes: &[u8], words: &mut [u32]) {
     let (to, lent) = (words.as_mut_ptr(), words.len());
     let answer = unsafe { latchbeacon_bytes_to_sysex7(bytes.as_ptr(), bytes.len(), 0, to, lent) };
     assert!(answer.refusal == 0 && answer.value == lent);
+}
+
+/// How many dumps a store has.
+pub fn check_store(store: &[u8]) -> usize {
+    let answer = unsafe { latchbeacon_store_check(store.as_ptr(), store.len()) };
+    assert!(answer.refusal == 0);
+    answer.value
+}
+
+/// The description of a dump.
+pub fn describe(store: &[u8], number: usize) -> Dump {
+    let answer = unsafe { latchbeacon_store_describe(store.as_ptr(), store.len(), number) };
+    assert!(answer.refusal == 0);
+    answer
+}
+
+/// Restores a dump; answers its length.
+pub fn restore(store: &[u8], number: usize, words: &mut [u32]) -> usize {
+    let (to, lent) = (words.as_mut_ptr(), words.len());
+    let answer = unsafe { latchbeacon_store_restore(store.as_ptr(), store.len(), number, to, lent) };
+    assert!(answer.refusal == 0);
+    answer.value
 }
 
 /// A message in a buffer with room for more.

@@ -1,0 +1,151 @@
+//! One comparison of ours with the model, and what came out, how often.
+use crate::layout::MOST_WORDS;
+use crate::{model, port};
+
+/// The calls, and the refusals that each can give, 0 for none.
+const CALLS: [(&str, &[usize]); 3] = [
+    ("check", &[0, 21, 22, 23]),
+    ("describe", &[0, 13, 21, 22, 23, 24, 25]),
+    ("restore", &[0, 1, 13, 14, 21, 22, 23, 24, 25]),
+];
+
+/// How often each call gave each refusal, 0 for none; and what was described and restored.
+pub struct Counts {
+    outcomes: [[u64; 26]; 3],
+    stores: u64,
+    deltas: u64,
+    longest: usize,
+    largest: usize,
+}
+
+/// A store in hex, cut short if it is long.
+fn hex(store: &[u8]) -> String {
+    let shown: String = store
+        .iter()
+        .take(4000)
+        .map(|byte| format!("{byte:02X}"))
+        .collect();
+    match store.len() > 4000 {
+        true => format!("{shown}... ({} bytes)", store.len()),
+        false => shown,
+    }
+}
+
+/// What is wrong, with the store and both answers.
+fn fault(call: &str, store: &[u8], model: String, ours: String) -> String {
+    let store = hex(store);
+    format!("ours is not as 02 says: {call}\n  store  {store}\n  02     {model}\n  ours   {ours}")
+}
+
+impl Counts {
+    /// No counts yet.
+    pub fn new() -> Counts {
+        Counts {
+            outcomes: [[0; 26]; 3],
+            stores: 0,
+            deltas: 0,
+            longest: 0,
+            largest: 0,
+        }
+    }
+
+    /// Compares the check of a store.
+    pub fn check(&mut self, store: &[u8]) -> Result<(), String> {
+        let (model, ours) = (model::check_answer(store), port::check(store));
+        if model != ours {
+            let [model, ours] = [model, ours].map(|answer| format!("{answer:?}"));
+            return Err(fault("check", store, model, ours));
+        }
+        self.outcomes[0][model[0]] += 1;
+        self.stores += 1;
+        Ok(())
+    }
+
+    /// Compares the description of a dump; answers it.
+    pub fn describe(&mut self, store: &[u8], number: usize) -> Result<[usize; 9], String> {
+        let model = model::describe_answer(store, number);
+        let ours = port::describe(store, number);
+        if model != ours {
+            let [model, ours] = [model, ours].map(|answer| format!("{answer:?}"));
+            return Err(fault(&format!("describe {number}"), store, model, ours));
+        }
+        self.outcomes[1][model[0]] += 1;
+        self.longest = self.longest.max(model[8]);
+        self.deltas += model[2] as u64;
+        Ok(model)
+    }
+
+    /// Compares restoring a dump in these words: the answer and every word lent. Answers what was answered, and the words.
+    pub fn restore(
+        &mut self,
+        store: &[u8],
+        number: usize,
+        words: &[u32],
+    ) -> Result<([usize; 3], Vec<u32>), String> {
+        let model = model::restore_answer(store, number, words);
+        let ours = port::restore(store, number, words);
+        if model != ours {
+            let call = format!("restore {number} in {} words", words.len());
+            let [model, ours] = [&model, &ours].map(|answer| format!("{answer:X?}"));
+            return Err(fault(&call, store, model, ours));
+        }
+        self.outcomes[2][model.0[0]] += 1;
+        self.largest = self.largest.max(model.0[2]);
+        Ok(model)
+    }
+
+    /// Compares description and restoring of a dump, in these words and in just as many as the description says.
+    pub fn both(&mut self, store: &[u8], number: usize, words: &[u32]) -> Result<(), String> {
+        let dump = self.describe(store, number)?;
+        self.restore(store, number, words)?;
+        if dump[0] == 0 && dump[7] <= MOST_WORDS {
+            let enough = vec![0xA5A5_A5A5; dump[7]];
+            let accepted = self.restore(store, number, &enough)?.0[0] == 0;
+            let refused = self.restore(store, number, &enough[1..])?.0[0] == 14;
+            if !accepted || !refused {
+                let text = "the words of the description are not just those that restoring needs";
+                return Err(format!("{text}: {number}\n  store  {}", hex(store)));
+            }
+        }
+        Ok(())
+    }
+
+    /// All comparisons.
+    pub fn total(&self) -> u64 {
+        self.outcomes.iter().flatten().sum()
+    }
+
+    /// The first call and refusal that never came.
+    pub fn never(&self) -> Option<String> {
+        for ((call, refusals), counts) in CALLS.iter().zip(&self.outcomes) {
+            if let Some(refusal) = refusals.iter().find(|&&refusal| counts[refusal] == 0) {
+                return Some(format!("{call} never answered {refusal}"));
+            }
+        }
+        None
+    }
+
+    /// Prints the table.
+    pub fn print(&self) {
+        let numbers = [0, 1, 13, 14, 21, 22, 23, 24, 25];
+        let head: String = numbers
+            .iter()
+            .map(|number| format!("{number:>10}"))
+            .collect();
+        println!(
+            "How often each call gave each refusal (0: accepted)\n{:10}{head}",
+            ""
+        );
+        for ((call, refusals), counts) in CALLS.iter().zip(&self.outcomes) {
+            let cell = |&number: &usize| match refusals.contains(&number) {
+                true => format!("{:>10}", counts[number]),
+                false => format!("{:>10}", "-"),
+            };
+            println!("{call:10}{}", numbers.iter().map(cell).collect::<String>());
+        }
+        println!(
+            "{} stores, {} deltas described; the longest walk has {} steps, the longest message {} words",
+            self.stores, self.deltas, self.longest, self.largest
+        );
+    }
+}

@@ -140,7 +140,7 @@ module _ {Lent Record : Type 0} {s : Shape} (dense : Dense s) {view : View Lent 
   finishes answers order o =
       goes s view calls group id payload (length words) patches (fits .apart) (fits .bytes) (fits .room) small meets answers order [] held (at-first order o)
 
-  -- 4. Each edit that a worker splices stands at its old range, plus the signed growth of the lower-numbered ones already done.
+  -- 4. At each step each edit that is left stands at its old range, plus the signed growth of the lower-numbered ones already done.
   pub places : (order : List ℕ) → Order (length patches) order → {end : End Lent} → (w : Works calls (bytesOf patches) held order end)
       → Placed (view .editOf) patches [] w
   places order o {end} w =

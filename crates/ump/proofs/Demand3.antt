@@ -107,3 +107,8 @@ dense8 = lit≤ tt
 
 pub dense7 : Dense sysex7
 dense7 = lit≤ tt
+
+-- SysEx7 is a use as it stands
+pub sysex7-demand3 : {words : List ℕ} {len : ℕ} {patches : List Patch} → Fits sysex7 words len patches
+    → Demand3 sysex7 (λ words. words) (λ edit. edit) (defined sysex7) patches (start words len patches)
+sysex7-demand3 = defined-demand3 dense7

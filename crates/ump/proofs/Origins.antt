@@ -217,13 +217,13 @@ header-octets s from =
     )
 
 filler-octets : (s : Shape) (from : List Source)
-    → howManyBy s from (wordsFor s (length from)) isFiller ≡ s .room * packetsFor s (length from) - length from
+    → howManyBy s from (wordsFor s (length from)) isFiller + length from ≡ s .room * packetsFor s (length from)
 filler-octets s from =
     let k : ℕ = packetsFor s (length from) in
     let f : ℕ → ℕ = λ i. one (isFiller (getD (map carried from) i filler)) in
-    all-octets s from (λ o. one (isFiller o))
-    ∙ omega (
+    omega (
       arith,
+      all-octets s from (λ o. one (isFiller o)),
       total-zero (λ p. total (λ j. 0) (header s)) k (λ p. total-zero (λ j. 0) (header s) (λ j. refl)),
       total-add f (below (length from)) (s .room * k),
       total-cong (λ i. f i + below (length from) i) (λ i. 1) (s .room * k) (λ i h. rest-filler from i),
@@ -360,7 +360,7 @@ module _ (s : Shape) (words : List ℕ) (len : ℕ) (patches : List Patch) (most
         within = λ q source h e. within s (length old) patches apart source q (rw words-is at h) (sym (origin-by s (length old) patches q) ∙ e);
         once = λ source w. counted (isFrom source) ∙ go source w;
         headers = counted isHeader ∙ header-octets s sourced ∙ ap (λ (n : ℕ). header s * packetsFor s n) (sym size-is);
-        fillers = counted isFiller ∙ filler-octets s sourced ∙ ap (λ (n : ℕ). s .room * packetsFor s n - n) (sym size-is);
+        fillers = rw (counted isFiller, size-is) (filler-octets s sourced);
       }
     where
       go : (source : Source) → Within (length old) patches source → howManyBy s sourced (wordsFor s (length sourced)) (isFrom source) ≡ 1

@@ -60,7 +60,13 @@ module _ (e : Edit) (x : ℕ) (forward : e .from ≤ e .to) (h : e .to - e .from
       ap pos moved-past-is
       ∙ sym (ap (λ (z : ℤ). pos x +ℤ z) (growth-is (e .from) (e .to) (e .length) forward) ∙ move-pos x (e .length) (e .to - e .from) h)
 
--- A move that is accepted adds the signed growth of the done edit if that is first, and else nothing.
+module _ {range : Range} where
+  twice-passed : (a b : Bool) (value : Range) → guard a 13 0 ▷ guard b 20 0 ▷ gives value ≡ gives range → (a ≡ false) × (b ≡ false) × (value ≡ range)
+  twice-passed true b value e = never-refused e
+  twice-passed false true value e = never-refused e
+  twice-passed false false value e = (refl, refl, cc e)
+
+-- A move that is accepted adds the signed growth of the done edit if that is first,
 pub move-signed : (done pending : Edit) (range : Range) → moveEdit done pending true ≡ gives range
     → (pos (range .from) ≡ pos (pending .from) +ℤ growth done) × (pos (range .to) ≡ pos (pending .to) +ℤ growth done)
 unfolding moveEdit
@@ -70,11 +76,13 @@ move-signed done pending range e =
     let onward : pending .from ≤ pending .to = ltb-false _ _ (or-left _ _ (or-right (badEdit done) (badEdit pending) (o .0))) in
     let behind : done .to ≤ pending .from = ltb-false _ _ (o .1) in
     rw (← (o .2)) (moved-by-growth done (pending .from) forward (omega arith), moved-by-growth done (pending .to) forward (omega arith))
-  where
-    twice-passed : (a b : Bool) (value : Range) → guard a 13 0 ▷ guard b 20 0 ▷ gives value ≡ gives range → (a ≡ false) × (b ≡ false) × (value ≡ range)
-    twice-passed true b value e = never-refused e
-    twice-passed false true value e = never-refused e
-    twice-passed false false value e = (refl, refl, cc e)
+
+-- and else nothing.
+pub move-keeps : (done pending : Edit) (range : Range) → moveEdit done pending false ≡ gives range → (range .from ≡ pending .from) × (range .to ≡ pending .to)
+unfolding moveEdit
+move-keeps done pending range e =
+    let o = twice-passed (badEdit done || badEdit pending) (ltb (done .from) (pending .to)) (record { from = pending .from; to = pending .to }) e in
+    rw (← (o .2)) (refl, refl)
 
 -- ---- the range of an edit that is still to be done
 

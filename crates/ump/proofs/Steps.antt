@@ -17,11 +17,11 @@ use Rattle.ump.specs.Check.{payloadOf}
 use Rattle.ump.specs.Splice.{spliced, Spliced, splice}
 use Rattle.ump.specs.Edits.{Edit, Patch, patchAt, Apart, allBytes, elem, movedPast, Order}
 use Rattle.ump.specs.Holds.{Holds, Fewest}
-use Rattle.ump.specs.Worker.{Calls, Held, End, finished, stopped, Works, rests, goes-on, splice-refused, move-refused, Finishes, bytesOf, InPlace, Placed, reached}
+use Rattle.ump.specs.Worker.{Calls, Held, End, finished, stopped, Works, rests, goes-on, splice-refused, move-refused, Finishes, bytesOf, AllInPlace, Placed, reached}
 use Rattle.ump.proofs.Meets.{movedEdit, View, Ready, Meets, CanSplice, CanMove, Answers}
 use Rattle.ump.proofs.First.{is-false}
 use Rattle.ump.proofs.Sizes.{words-mono}
-use Rattle.ump.proofs.Replace.{moved, or-right-true, mixed, length-mixed, range-forward, range-inside, step, after, elem-same, fresh}
+use Rattle.ump.proofs.Replace.{moved, or-right-true, mixed, length-mixed, range-forward, range-inside, range-whole, step, after, elem-same, fresh}
 use Rattle.ump.proofs.Splicing.{Packed, splice-packs, length-spliced}
 use Rattle.ump.proofs.Signed.{moved-past-is, from-signed, to-signed}
 use Rattle.ump.proofs.Moving.{editNow, move-past}
@@ -215,23 +215,26 @@ module _ {Lent Record : Type 0} (s : Shape) (view : View Lent Record) (calls : C
 
   -- ---- where each edit stands
 
-  stands : (ds : List ℕ) (i : ℕ) (order : List ℕ) (held : Held Lent Record) → At ds (i ∷ order) held → InPlace es ds i (view .editOf (held .edit i))
-  stands ds i order held at =
-      rw (is-i ds i order held at)
+  stands : (ds order : List ℕ) (held : Held Lent Record) → At ds order held → AllInPlace (view .editOf) es ds order (held .edit)
+  stands ds order held at k e =
+      let h : k < length es = order-below (length es) k order (at .each) e in
+      rw (at .edits k e)
       (record {
-        from = from-signed p es a ds i (at .each .0) (fresh-i ds i order held at);
-        to = to-signed p es a ds i (at .each .0) (fresh-i ds i order held at);
+        from = from-signed p es a ds k h (at .left k e);
+        to = to-signed p es a ds k h (at .left k e);
+        wide = omega (arith, range-whole p es a ds k h (at .left k e), a .forward k h);
+        length = refl;
       })
 
   pub placed : (order ds : List ℕ) (held : Held Lent Record) (end : End Lent) → At ds order held
       → (w : Works calls (bytesOf es) held order end) → Placed (view .editOf) es ds w
   placed order ds held end at rests = tt
   placed (i ∷ order) ds held end at (goes-on {change = change} {left = left} {edit = edit} s m w) = (
-    stands ds i order held at,
+    stands ds (i ∷ order) held at,
     placed order (i ∷ ds) _ end (next ds i order held at left (change .length) edit (took ds i order held at (gives change) left s) m) w,
   )
-  placed (i ∷ order) ds held end at (splice-refused s) = stands ds i order held at
-  placed (i ∷ order) ds held end at (move-refused s k e m) = stands ds i order held at
+  placed (i ∷ order) ds held end at (splice-refused s) = stands ds (i ∷ order) held at
+  placed (i ∷ order) ds held end at (move-refused s k e m) = stands ds (i ∷ order) held at
 
   -- ---- what stands behind the message at the end
 

@@ -26,7 +26,7 @@ pub record Demand3 {Lent Record : Type 0} (shape : Shape) (wordsOf : Lent → Li
       → Works calls (bytesOf patches) held order (stopped number place) → ⊥
   -- In each order, of all the edits or of some, there is a worker that finishes.
   pub finishes : (order : List ℕ) → Order (length patches) order → Finishes calls (bytesOf patches) held order
-  -- Each edit that is spliced stands at its old range, plus the signed growth of the lower-numbered ones already done.
+  -- At each step each edit that is left stands at its old range, plus the signed growth of the lower-numbered ones already done.
   pub places : (order : List ℕ) → Order (length patches) order → {end : End Lent} → (w : Works calls (bytesOf patches) held order end)
       → Placed editOf patches [] w
   -- The message at the end is the fewest-packet form of the payload with all ranges replaced at once.

@@ -136,5 +136,5 @@ pub record Traced (shape : Shape) (words : List ℕ) (len : ℕ) (patches : List
       → howMany shape (length (payloadOf shape words len)) (editsFor patches) new (isFrom source) ≡ 1
   pub headers : howMany shape (length (payloadOf shape words len)) (editsFor patches) new isHeader
       ≡ header shape * packetsFor shape (length (replaced (payloadOf shape words len) patches))
-  pub fillers : howMany shape (length (payloadOf shape words len)) (editsFor patches) new isFiller
-      ≡ shape .room * packetsFor shape (length (replaced (payloadOf shape words len) patches)) - length (replaced (payloadOf shape words len) patches)
+  pub fillers : howMany shape (length (payloadOf shape words len)) (editsFor patches) new isFiller + length (replaced (payloadOf shape words len) patches)
+      ≡ shape .room * packetsFor shape (length (replaced (payloadOf shape words len) patches))

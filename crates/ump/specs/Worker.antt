@@ -95,20 +95,28 @@ start words len patches = record { lent = words; length = len; edit = editAt pat
 abbrev pub Each : List Patch → List ℕ → Type 0
 Each patches order = Order (length patches) order × (length order ≡ length patches)
 
--- ---- where each edit stands when it is spliced
+-- ---- where each edit stands at each step
 
--- edit i, with these done: the old range, plus the signed growth of the lower-numbered ones among them
+-- edit i, with these done: the old range, plus the signed growth of the lower-numbered ones among them. So the range is as wide as it was;
+-- and the edit has as many bytes as it had.
 pub record InPlace (patches : List Patch) (done : List ℕ) (i : ℕ) (edit : Edit) : Type 0 where
   pub from : pos (edit .from) ≡ pos (patchAt patches i .from) +ℤ grown patches done i
   pub to : pos (edit .to) ≡ pos (patchAt patches i .to) +ℤ grown patches done i
+  pub wide : edit .to + patchAt patches i .from ≡ patchAt patches i .to + edit .from
+  pub length : edit .length ≡ length (patchAt patches i .bytes)
 
--- each edit that a worker splices, or tries to, stands so
+-- each edit that is left stands so
+abbrev pub AllInPlace : {Record : Type 0} → (Record → Edit) → List Patch → List ℕ → List ℕ → (ℕ → Record) → Type 0
+AllInPlace editOf patches done order edit = (k : ℕ) → elem k order ≡ true → InPlace patches done k (editOf (edit k))
+
+-- and that before each splice, the one to be spliced among them
 abbrev pub Placed : {Lent Record : Type 0} {calls : Calls Lent Record} {bytes : ℕ → List ℕ} {held : Held Lent Record} {order : List ℕ} {end : End Lent}
     → (Record → Edit) → List Patch → List ℕ → Works calls bytes held order end → Type 0
 Placed editOf patches done rests = Unit {0}
-Placed editOf patches done (goes-on {held = held} {i = i} s m w) = InPlace patches done i (editOf (held .edit i)) × Placed editOf patches (i ∷ done) w
-Placed editOf patches done (splice-refused {held = held} {i = i} s) = InPlace patches done i (editOf (held .edit i))
-Placed editOf patches done (move-refused {held = held} {i = i} s k e m) = InPlace patches done i (editOf (held .edit i))
+Placed editOf patches done (goes-on {held = held} {i = i} {order = order} s m w) =
+    AllInPlace editOf patches done (i ∷ order) (held .edit) × Placed editOf patches (i ∷ done) w
+Placed editOf patches done (splice-refused {held = held} {i = i} {order = order} s) = AllInPlace editOf patches done (i ∷ order) (held .edit)
+Placed editOf patches done (move-refused {held = held} {i = i} {order = order} s k e m) = AllInPlace editOf patches done (i ∷ order) (held .edit)
 
 -- ---- the longest message on the way, in words
 

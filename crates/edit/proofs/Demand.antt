@@ -15,6 +15,7 @@ use Rattle.ump.specs.Demand.{Audited}
 use Rattle.ump.specs.Samples.{message5, patches8}
 use Rattle.ump.proofs.Demand3.{dense8, PlainAnswers}
 use Rattle.ump.proofs.NotEmpty.{fits8}
+use Rattle.ump.proofs.Orders as orders
 use Rattle.splice.specs.declared.sysex8.Repacked.the-variants as repacked
 use Rattle.splice.specs.declared.sysex8.Spliced.the-variants as spliced
 use Rattle.edit.specs.Meaning.{originMeaning}
@@ -123,3 +124,7 @@ finishes-up = audited .demand3 fits8 .finishes (0 ∷ 1 ∷ []) (lit< tt, tt, (l
 
 pub finishes-down : Finishes (family .calls) (bytesOf patches8) (start message5 12 patches8) (1 ∷ 0 ∷ [])
 finishes-down = audited .demand3 fits8 .finishes (1 ∷ 0 ∷ []) (lit< tt, tt, (lit< tt, tt, tt))
+
+-- Two orders of the same edits leave other words behind the same message.
+pub behind-differs : orders.BehindDiffers (family .calls)
+behind-differs = orders.behind-differs answers

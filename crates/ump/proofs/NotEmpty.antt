@@ -12,7 +12,7 @@ use Rattle.ump.specs.Worker.{Fits}
 use Rattle.ump.specs.Samples.{message5, patches8}
 
 -- a fact about each of two
-both : (P : ℕ → Type 0) → P 0 → P 1 → (i : ℕ) → i < 2 → P i
+pub both : (P : ℕ → Type 0) → P 0 → P 1 → (i : ℕ) → i < 2 → P i
 both P a b zero h = a
 both P a b (suc zero) h = b
 both P a b (suc (suc i)) h = absurd (omega arith)

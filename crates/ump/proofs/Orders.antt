@@ -1,36 +1,76 @@
 -- Two orders of the same edits come to the same message, and to other words behind it: 01 says that those may differ.
 -- Assumes nothing.
 use mathlib.Core.Path.{_≡_, refl}
-use mathlib.Core.Bool.{true, false}
+use mathlib.Core.Bool.{Bool, true, false, _||_}
 use mathlib.Core.List.{List, [], _∷_, _++_}
-use Prim.Native.Nat.{ℕ}
-use lib.IntN.{pos, negsuc}
+use Prim.Native.Nat.{ℕ, _≤_}
+use native.Mathlib.Omega.{arith}
+use lib.Dec.{eqb, ltb, lit<, lit≤}
 use lib.ListN.{replicate}
+use borrow.Author.Tests.{eqb-true}
 use Rattle.refusal.specs.Answer.{gives}
-use Rattle.ump.specs.Word.{octets, wordsOf}
-use Rattle.ump.specs.Packet.{sizeOf, payloadAt, joined, payload}
+use Rattle.ump.specs.Word.{octets, wordsOf, Below}
+use Rattle.ump.specs.Packet.{sysex8, sizeOf, payloadAt, joined, payload}
 use Rattle.ump.specs.Packing.{statusFor, frame, packsAt, packs, packetsFor, pack}
 use Rattle.ump.specs.Check.{first, badType, badStatus, badCount, badGroup, badId, checkPackets, check}
-use Rattle.ump.specs.Splice.{stored, rewritten, splice}
-use Rattle.ump.specs.Edits.{Patch, moveEdit}
-use Rattle.ump.specs.Samples.{inTurn}
+use Rattle.ump.specs.Splice.{Spliced, stored, rewritten, splice}
+use Rattle.ump.specs.Edits.{Edit, Patch, patchAt, endBefore, total, moveEdit}
+use Rattle.ump.specs.Worker.{Calls, Held, finished, Works, rests, goes-on, Fits, bytesOf, start}
+use Rattle.ump.proofs.Meets.{movedEdit}
+use Rattle.ump.proofs.Demand3.{PlainAnswers}
+use Rattle.ump.proofs.NotEmpty.{both}
 
 -- 13 bytes in one packet, and four words behind it
-abbrev words : List ℕ
+abbrev pub words : List ℕ
 words = 0x500E0001 ∷ 0x02030405 ∷ 0x06070809 ∷ 0x0A0B0C0D ∷ replicate 4 9
 
 -- a byte put in before the first, and the last byte taken out
-abbrev grows : Patch
-grows = record { from = 0; to = 0; bytes = 0xEE ∷ [] }
+abbrev pub patches : List Patch
+patches = record { from = 0; to = 0; bytes = 0xEE ∷ [] } ∷ record { from = 12; to = 13; bytes = [] } ∷ []
 
-abbrev shrinks : Patch
-shrinks = record { from = 12; to = 13; bytes = [] }
-
-abbrev message : List ℕ
+abbrev pub message : List ℕ
 message = 0x500E00EE ∷ 0x01020304 ∷ 0x05060708 ∷ 0x090A0B0C ∷ []
 
--- grown first, it has two packets on the way, and zeros are left of the second; shrunk first, the words behind stay
-pub behind-differs : (inTurn words 4 grows shrinks true ≡ (gives (record { length = 4; growth = negsuc 0 }), message ++ replicate 4 0))
-    × (inTurn words 4 shrinks grows false ≡ (gives (record { length = 4; growth = pos 1 }), message ++ replicate 4 9))
-unfolding splice moveEdit rewritten stored check checkPackets badType badStatus badCount badGroup badId first payload payloadAt sizeOf octets pack packs packsAt packetsFor statusFor frame joined wordsOf
-behind-differs = (refl, refl)
+-- By such calls: demand 3 allows the edits; grown first, the message has two packets on the way, and zeros are left of the second; shrunk
+-- first, the words behind stay.
+pub record BehindDiffers (calls : Calls (List ℕ) Edit) : Type 0 where
+  pub fits : Fits sysex8 words 4 patches
+  pub grown-first : Works calls (bytesOf patches) (start words 4 patches) (0 ∷ 1 ∷ []) (finished (message ++ replicate 4 0) 4)
+  pub shrunk-first : Works calls (bytesOf patches) (start words 4 patches) (1 ∷ 0 ∷ []) (finished (message ++ replicate 4 9) 4)
+
+-- two edits one after the other, by calls that have the outcomes of the definitions
+in-turn : {calls : Calls (List ℕ) Edit} → PlainAnswers sysex8 calls → {bytes : ℕ → List ℕ} {held : Held (List ℕ) Edit} (i j : ℕ)
+    → {change second : Spliced} {between left : List ℕ} {edit : Edit} → Below 256 (bytes i) → Below 256 (bytes j)
+    → splice sysex8 (held .lent) (held .length) (held .edit i .from) (held .edit i .to) (bytes i) ≡ (gives change, between)
+    → movedEdit (held .edit i) (held .edit j) (ltb i j) ≡ gives edit
+    → splice sysex8 between (change .length) (edit .from) (edit .to) (bytes j) ≡ (gives second, left)
+    → Works calls bytes held (i ∷ j ∷ []) (finished left (second .length))
+in-turn {calls} answers {held = held} i j {edit = edit} b c e m f =
+    goes-on (answers .can-splice b e) (λ k t. go k (eqb k j) refl t) (goes-on {edit = λ k. edit} (answers .can-splice c f) (λ k t. none t) rests)
+  where
+    none : {A : Type 0} → false ≡ true → A
+    none t = let z : _≡_ {A = ℕ} 0 1 = cc in absurd (omega arith)
+
+    go : (k : ℕ) (b : Bool) → eqb k j ≡ b → (b || false) ≡ true → calls .Moves (held .edit i) (held .edit k) (ltb i k) (gives edit)
+    go k true q t = rw (eqb-true k j q) (answers .can-move m)
+    go k false q t = none t
+
+-- It is so by any calls that have the outcomes of the definitions.
+pub behind-differs : {calls : Calls (List ℕ) Edit} → PlainAnswers sysex8 calls → BehindDiffers calls
+unfolding splice moveEdit rewritten stored check checkPackets badType badStatus badCount badGroup badId first payload payloadAt sizeOf octets pack packs packsAt packetsFor statusFor frame joined wordsOf total
+behind-differs answers =
+    record {
+      fits = record {
+        passes = refl;
+        apart = record {
+          after = both (λ i. endBefore patches i ≤ patchAt patches i .from) (lit≤ tt) (lit≤ tt);
+          forward = both (λ i. patchAt patches i .from ≤ patchAt patches i .to) (lit≤ tt) (lit≤ tt);
+          inside = lit≤ tt;
+        };
+        bytes = both (λ i. Below 256 (patchAt patches i .bytes)) (lit< tt, tt) tt;
+        room = lit≤ tt;
+        some = lit< tt;
+      };
+      grown-first = in-turn answers 0 1 (lit< tt, tt) tt refl refl refl;
+      shrunk-first = in-turn answers 1 0 tt (lit< tt, tt) refl refl refl;
+    }

@@ -269,9 +269,9 @@ latchbeacon_change latchbeacon_sysex8_splice_all(uint32_t *words, size_t words_l
 
 /* Answers where an octet of the words lent comes from once latchbeacon_sysex8_splice_all is done. All is lent as to that call, and as
  * it is before it; nothing is written. Octet 4w + b is octet b of word w. Splices of the same edits in any order, each moved by
- * latchbeacon_move_edit, make the same message, so the answer is the same for every octet of it; behind it the answer is what
- * latchbeacon_sysex8_splice_all leaves. Refusals: those of latchbeacon_sysex8_splice_all, then 13 (octet not below 4 times the words
- * lent). */
+ * latchbeacon_move_edit, make the same message, if there is at least one edit and the words lent have room for the payload and all
+ * replacement bytes; then the answer is the same for every octet of it. Behind it the answer is what latchbeacon_sysex8_splice_all
+ * leaves. Refusals: those of latchbeacon_sysex8_splice_all, then 13 (octet not below 4 times the words lent). */
 latchbeacon_origin latchbeacon_sysex8_origin(const uint32_t *words, size_t words_lent, size_t length, const size_t *numbers,
                                              size_t numbers_lent, const uint8_t *bytes, size_t bytes_lent, size_t octet);
 

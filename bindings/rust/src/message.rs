@@ -302,8 +302,9 @@ impl<'a> Message<'a> {
     ///
     /// Edits and bytes are those of that call, and it is asked before it; nothing is changed. Octet 4w + b is octet b of word w of
     /// [`buffer`](Message::buffer), 0 the most significant. Two workers that do the edits one after the other, each in its own
-    /// order and with [`move_edit`](crate::move_edit), end with the same message, so the answer holds for every octet of it. Behind
-    /// it the answer is what `splice_edits` leaves.
+    /// order and with [`move_edit`](crate::move_edit), end with the same message, if there is at least one edit and the buffer has
+    /// room for the payload and all replacement bytes; then the answer holds for every octet of it. Behind it the answer is what
+    /// `splice_edits` leaves.
     ///
     /// # Errors
     ///

@@ -15,13 +15,16 @@ fn kind_04() -> bool {
 }
 
 // A whole dump but for its kind.
-fn kind_11() -> bool {
-    is_unsound(b"\x01\x00\x01\x02\x07\x82\x41\x42\x11\x00\x02\x00\x00", 21)
+fn kind_10() -> bool {
+    is_unsound(b"\x01\x00\x01\x02\x07\x82\x41\x42\x10\x00\x02\x00\x00", 21)
 }
 
-// A delta but for its kind.
-fn kind_12() -> bool {
-    is_unsound(b"\x01\x00\x01\x02\x07\x82\x41\x42\x12\x00\x02\x00\x01", 21)
+// An edit of a delta but for its kind.
+fn kind_13() -> bool {
+    is_unsound(
+        b"\x01\x00\x01\x02\x07\x82\x41\x42\x02\x00\x02\x00\x01\x13\x00\x01\x00\x01",
+        21,
+    )
 }
 
 // Data of no bytes.
@@ -46,8 +49,8 @@ fn kind_ff() -> bool {
 pub(crate) fn report_kinds() {
     report(b"kind 00", kind_00());
     report(b"kind 04", kind_04());
-    report(b"kind 11", kind_11());
-    report(b"kind 12", kind_12());
+    report(b"kind 10", kind_10());
+    report(b"kind 13", kind_13());
     report(b"kind 80", kind_80());
     report(b"kind 8E", kind_8e());
     report(b"kind FF", kind_ff());

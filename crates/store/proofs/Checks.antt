@@ -12,7 +12,7 @@ use Rattle.refusal.specs.Answer.{gives, refused, pass, _▷_, guard}
 use Rattle.refusal.specs.Number.{numberOf}
 use Rattle.refusal.specs.declared.Fault.{Fault}
 use Rattle.refusal.specs.declared.Refusal.the-variants.{Format, Twice, Full}
-use Rattle.refusal.proofs.Laws.{never-refused, given-passes, refused-by, Named, by-guard, by-both}
+use Rattle.refusal.proofs.Laws.{never-refused, given-passes, refused-by, Named, by-guard, by-both, accepted}
 use Rattle.store.specs.Store.{recordsOf, atStart, wellFormed, Dump, dumpsOf, numbersOf, twice, mostDumps, sound, check}
 use Rattle.store.specs.Places.{dumpAt, Noted}
 use Rattle.store.specs.Meaning.{checkedMeaning, Indexes}
@@ -69,6 +69,9 @@ unfolding sound
 sound-named store =
     by-both _ _ (by-guard (not (wellFormed atStart (recordsOf store))) Format 0)
     (by-both _ _ (by-guard (twice (numbersOf (dumpsOf store))) Twice 0) (by-guard (ltb mostDumps (length (dumpsOf store))) Full 0))
+
+pub check-named : (store : List ℕ) → Named (check store)
+check-named store = by-both _ _ (sound-named store) accepted
 
 -- ---- the answer, and the places
 

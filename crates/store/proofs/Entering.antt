@@ -14,7 +14,7 @@ use Rattle.store.specs.Places.{nextAt, dumpsFrom, dumpAt, Begins, Noted,
 use Rattle.store.specs.Meaning.{Enters, Passed}
 use Rattle.store.specs.declared.numbers.Entered.the-variants as entered
 use Rattle.store.proofs.Records.{not-both}
-use Rattle.store.proofs.Flagging.{none-flagged}
+use Rattle.store.proofs.Flagging.{none-flagged, flag-inside}
 use Rattle.store.proofs.Dumps.{dumps-end, dumps-here, dumps-past, number-here}
 
 -- ---- numbers used again
@@ -30,12 +30,12 @@ or-assoc : (a b c : Bool) → ((a || b) || c) ≡ (a || (b || c))
 or-assoc true b c = refl
 or-assoc false b c = refl
 
-elem-append : (m : ℕ) (ns ks : List ℕ) → elem m (ns ++ ks) ≡ (elem m ns || elem m ks)
+pub elem-append : (m : ℕ) (ns ks : List ℕ) → elem m (ns ++ ks) ≡ (elem m ns || elem m ks)
 elem-append m [] ks = refl
 elem-append m (n ∷ ns) ks = ap (λ (b : Bool). eqb m n || b) (elem-append m ns ks) ∙ sym (or-assoc (eqb m n) (elem m ns) (elem m ks))
 
 -- a number that is there, and comes again
-twice-again : (ns : List ℕ) (n : ℕ) (ks : List ℕ) → elem n ns ≡ true → twice (ns ++ n ∷ ks) ≡ true
+pub twice-again : (ns : List ℕ) (n : ℕ) (ks : List ℕ) → elem n ns ≡ true → twice (ns ++ n ∷ ks) ≡ true
 unfolding twice
 twice-again [] n ks e = not-both e refl
 twice-again (m ∷ ns) n ks e = go (λ h. twice-again ns n ks h) (eqb n m) refl e
@@ -54,7 +54,7 @@ twice-again (m ∷ ns) n ks e = go (λ h. twice-again ns n ks h) (eqb n m) refl 
         or-true false = refl
 
 -- a number that is not there, behind numbers that are each there once
-twice-new : (ns : List ℕ) (n : ℕ) → twice ns ≡ false → elem n ns ≡ false → twice (ns ++ n ∷ []) ≡ false
+pub twice-new : (ns : List ℕ) (n : ℕ) → twice ns ≡ false → elem n ns ≡ false → twice (ns ++ n ∷ []) ≡ false
 unfolding twice
 twice-new [] n t e = refl
 twice-new (m ∷ ns) n t e = go (λ u f. twice-new ns n u f) (eqb n m) (elem m ns) refl refl t e
@@ -78,7 +78,7 @@ entering-start store {used} places e =
       fewer = omega arith;
       numbers = refl;
       once = refl;
-      marks = λ m h. none-flagged {size = 8192} e m (omega arith);
+      marks = λ m h. none-flagged 8192 e m;
       counted = omega arith;
       dumps = λ h. refl;
       begin = λ i h k. absurd (omega arith);
@@ -112,7 +112,7 @@ module _ {store : List ℕ} {at count : ℕ} {used places : List ℕ} (e : Enter
 
       pub entering-dump : {used′ : List ℕ} → flagged used n ≡ false → length used′ ≡ length used → Flags used n used′
           → Entering store (nextAt store at) (count + 1) used′ (set places count at)
-      entering-dump u l f =
+      entering-dump {used′} u l f =
           let new : elem n (e .passed) ≡ false = sym (e .marks n small) ∙ u in
           record {
             passed = e .passed ++ n ∷ [];
@@ -121,7 +121,7 @@ module _ {store : List ℕ} {at count : ℕ} {used places : List ℕ} (e : Enter
             numbers = all-numbers ∙ sym (append-snoc (e .passed) n (numbersOf (dumpsFrom store (nextAt store at))));
             once = twice-new (e .passed) n (e .once) new;
             marks = λ m k.
-                f m ∙ ap (λ (b : Bool). eqb m n || b) (e .marks m k) ∙ or-last (eqb m n) (elem m (e .passed)) ∙ sym (elem-append m (e .passed) (n ∷ []));
+                flag-inside used n used′ f (omega (arith, e .table, small)) m ∙ ap (λ (b : Bool). eqb m n || b) (e .marks m k) ∙ or-last (eqb m n) (elem m (e .passed)) ∙ sym (elem-append m (e .passed) (n ∷ []));
             counted = omega (arith, e .counted, ap (λ (ds : List Dump). length ds) (dumps-here store at h d));
             dumps = λ k. noted (omega (arith, k, length-set places count at));
             begin = λ i k l. place i k (omega (arith, l, length-set places count at)) (eqb i count) refl;

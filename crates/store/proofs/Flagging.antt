@@ -2,15 +2,15 @@
 use mathlib.Core.Path.{_≡_, refl, sym, ap, ap₂, _∙_}
 use mathlib.Core.Bool.{Bool, true, false, _||_}
 use mathlib.Core.List.{List}
-use Prim.Native.Nat.{ℕ, zero, suc, _+_, _*_, _/_, _%_, _^_, _<_}
+use Prim.Native.Nat.{ℕ, zero, suc, _+_, _*_, _/_, _%_, _^_, _≤_, _<_}
 use native.Mathlib.Nat.{one-mul, div-one, pow-suc, mod-eq-of-lt}
 use native.Mathlib.Omega.{arith}
 use lib.Dec.{eqb, eqb·zero-suc, eqb·suc-zero, eqb·suc-suc}
-use lib.ListN.{length, getD, set, replicate, getD-replicate}
+use lib.ListN.{length, getD, set, replicate, List·getD-eq-default}
 use lib.Seq.{getD-set-same, getD-set-other}
 use lib.Pow.{pow-lt, shr-shr, shr-le}
 use lib.Bits.{bitOr, or-shr, or-mod, or-zero-r}
-use borrow.Author.Tests.{eqb-true, eqb-false, eq-eqb, ne-eqb}
+use borrow.Author.Tests.{eqb-true, eqb-false, eq-eqb, ne-eqb, lt-ltb, le-ltb}
 use Rattle.store.specs.Places.{flagged, Flags}
 
 -- ---- bits of a number
@@ -49,23 +49,33 @@ set-bit (suc k) (suc j) v =
 
 -- ---- flags of a table
 
--- none is set in a table of zeros
-pub none-flagged : {table : List ℕ} {size : ℕ} → table ≡ replicate size 0 → (m : ℕ) → m / 8 < size → flagged table m ≡ false
-none-flagged {table} {size} e m h =
+unset : (table : List ℕ) (m : ℕ) → getD table (m / 8) 0 ≡ 0 → flagged table m ≡ false
+unset table m e =
     let none : 0 / 2 ^ (m % 8) ≡ 0 = omega (arith, shr-le 0 (m % 8)) in
-    ap (λ (v : ℕ). bit v (m % 8)) (ap (λ (l : List ℕ). getD l (m / 8) 0) e ∙ getD-replicate {0} {A = ℕ} size (m / 8) 0 0 h)
-    ∙ ap (λ (v : ℕ). eqb (v % 2) 1) none
+    ap (λ (v : ℕ). bit v (m % 8)) e ∙ ap (λ (v : ℕ). eqb (v % 2) 1) none
+
+-- none is set in a table of zeros, and none past a table
+pub none-flagged : {table : List ℕ} (size : ℕ) → table ≡ replicate size 0 → (m : ℕ) → flagged table m ≡ false
+none-flagged {table} size e m = unset table m (ap (λ (l : List ℕ). getD l (m / 8) 0) e ∙ zeros size (m / 8))
+  where
+    zeros : (n i : ℕ) → _≡_ {A = ℕ} (getD (replicate n 0) i 0) 0
+    zeros zero i = refl
+    zeros (suc n) zero = refl
+    zeros (suc n) (suc i) = zeros n i
+
+pub past-flagged : (table : List ℕ) (m : ℕ) → length table ≤ m / 8 → flagged table m ≡ false
+past-flagged table m h = unset table m (List·getD-eq-default table 0 h)
 
 -- the bit of a flag set in its byte
-module _ (table : List ℕ) (n : ℕ) (h : n / 8 < length table) where
+module _ (table : List ℕ) (n : ℕ) where
   abbrev byte : ℕ
   byte = bitOr (getD table (n / 8) 0) (1 * 2 ^ (n % 8) % 2 ^ 8)
 
   set-byte : byte ≡ bitOr (getD table (n / 8) 0) (2 ^ (n % 8))
   set-byte = ap (bitOr (getD table (n / 8) 0)) (ap (λ (x : ℕ). x % 2 ^ 8) (one-mul (2 ^ (n % 8))) ∙ mod-eq-of-lt (pow-lt {i = n % 8} {j = 8} (omega arith)))
 
-  pub flag-set : Flags table n (set table (n / 8) byte)
-  flag-set m = go (eqb (m / 8) (n / 8)) (eqb m n) refl refl
+  set-flag : n / 8 < length table → (m : ℕ) → flagged (set table (n / 8) byte) m ≡ (eqb m n || flagged table m)
+  set-flag h m = go (eqb (m / 8) (n / 8)) (eqb m n) refl refl
     where
       go : (b c : Bool) → eqb (m / 8) (n / 8) ≡ b → eqb m n ≡ c → flagged (set table (n / 8) byte) m ≡ (c || flagged table m)
       go true c p q =
@@ -79,3 +89,14 @@ module _ (table : List ℕ) (n : ℕ) (h : n / 8 < length table) where
           place false e q = ne-eqb (m % 8) (n % 8) (λ r. eqb-false m n q (omega arith))
       go false true p q = absurd (eqb-false (m / 8) (n / 8) p (ap (λ (x : ℕ). x / 8) (eqb-true m n q)))
       go false false p q = ap (λ (v : ℕ). bit v (m % 8)) (getD-set-other table (n / 8) (m / 8) byte 0 (eqb-false (m / 8) (n / 8) p))
+
+  pub flag-set : n / 8 < length table → Flags table n (set table (n / 8) byte)
+  flag-set h m = rw (lt-ltb (n / 8) (length table) h) (set-flag h m)
+
+  pub flag-past : length table ≤ n / 8 → Flags table n table
+  flag-past h m = rw (le-ltb (n / 8) (length table) h)
+
+-- a flag of the table is set
+pub flag-inside : (before : List ℕ) (n : ℕ) (after : List ℕ) → Flags before n after → n / 8 < length before
+    → (m : ℕ) → flagged after m ≡ (eqb m n || flagged before m)
+flag-inside before n after f h m = rw (lt-ltb (n / 8) (length before) h) at (f m)

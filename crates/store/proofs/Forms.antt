@@ -66,26 +66,33 @@ module _ (f : Follow) (k : ℕ) where
 
   delta-end : (to : ℕ) → isDelta k ≡ true → followsBy f k to .end ≡ 0
   unfolding followsBy
-  delta-end to e = let is : k ≡ 2 = eqb-true k 2 e in rw is
+  delta-end to e = go (isWhole k)
+    where
+      go : (b : Bool) → cond b (record { edits = false; bytes = true; end = 0 }) (cond (isDelta k) (record { edits = true; bytes = false; end = 0 }) (cond (isEdit k) (record { edits = true; bytes = true; end = to }) f)) .end ≡ 0
+      go true = refl
+      go false = rw e
 
   data-end : (to : ℕ) → isData k ≡ true → followsBy f k to .end ≡ f .end
   unfolding followsBy
   data-end to e = let o = data-other k e in rw (o .0, o .1 .0, o .1 .1)
 
 -- the first record of well-formed ones, and those behind it
-formed-step : (f : Follow) (r : Record) (rs : List Record) → wellFormed f (r ∷ rs) ≡ true
-    → (allowed f r ≡ true) × (wellFormed (follows f r) rs ≡ true)
+pub form-step : (f : Follow) (r : Record) (rs : List Record) → wellFormed f (r ∷ rs) ≡ true
+    → (fits f r ≡ true) × (wellFormed (follows f r) rs ≡ true)
 unfolding wellFormed
-formed-step f r rs e =
-    let a = and-true (fits f r) (wellFormed (follows f r) rs) e in
-    (and-true (eqb (length (r .body)) (bodySize (r .kind))) (allowed f r) (a .0) .1, a .1)
+form-step f r rs e = and-true (fits f r) (wellFormed (follows f r) rs) e
+
+pub fit-parts : (f : Follow) (r : Record) → fits f r ≡ true → (length (r .body) ≡ bodySize (r .kind)) × (allowed f r ≡ true)
+fit-parts f r e =
+    let a = and-true (eqb (length (r .body)) (bodySize (r .kind))) (allowed f r) e in
+    (eqb-true (length (r .body)) (bodySize (r .kind)) (a .0), a .1)
 
 patches-ordered : (f : Follow) (rs : List Record) → wellFormed f rs ≡ true → Ordered (f .end) (patchesIn rs)
 unfolding patchesIn
 patches-ordered f [] e = tt
 patches-ordered f (r ∷ rs) e =
-    let s = formed-step f r rs e in
-    go (patches-ordered (follows f r) rs (s .1)) (s .0) (isEdit (r .kind)) (isData (r .kind)) refl refl
+    let s = form-step f r rs e in
+    go (patches-ordered (follows f r) rs (s .1)) (fit-parts f r (s .0) .1) (isEdit (r .kind)) (isData (r .kind)) refl refl
   where
     to : ℕ
     to = pairAt (r .body) 2
@@ -105,9 +112,9 @@ pub all-formed : (f : Follow) (rs : List Record) → wellFormed f rs ≡ true �
 unfolding dumpsIn
 all-formed f [] e = tt
 all-formed f (r ∷ rs) e =
-    let s = formed-step f r rs e in
+    let s = form-step f r rs e in
     dump-more r rs Formed
-    (λ w. whole-group f (r .kind) (getD (r .body) 2 0) (pairAt (r .body) 0) w (s .0))
+    (λ w. whole-group f (r .kind) (getD (r .body) 2 0) (pairAt (r .body) 0) w (fit-parts f r (s .0) .1))
     (λ d. rw (delta-end f (r .kind) (pairAt (r .body) 2) d) at (patches-ordered (follows f r) rs (s .1)))
     (all-formed (follows f r) rs (s .1))
 

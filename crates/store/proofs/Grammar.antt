@@ -1,13 +1,13 @@
 -- What may follow what, record by record. Assumes nothing.
 use mathlib.Core.Path.{_≡_, refl, sym, ap, _∙_}
-use mathlib.Core.Bool.{Bool, true, false}
+use mathlib.Core.Bool.{Bool, true, false, cond}
 use mathlib.Core.List.{List}
 use Prim.Native.Nat.{ℕ, _+_, _-_, _≤_, _<_}
 use native.Mathlib.Omega.{arith}
 use lib.Dec.{ltb, leb}
 use lib.ListN.{length, getD, take, drop, length-drop}
 use lib.Seq.{length-take-le}
-use borrow.Author.Tests.{eq-eqb, ne-eqb}
+use borrow.Author.Tests.{eq-eqb, ne-eqb, eqb-true}
 use Rattle.store.specs.Store.{isWhole, isDelta, isEdit, isData, bodySize, followsBy, allowedBy, follows, allowed, fits, wellFormed, pairAt}
 use Rattle.store.specs.Places.{recordAt, nextAt, recordsFrom}
 use Rattle.store.specs.declared.format.Follow.{Follow}
@@ -16,6 +16,14 @@ use Rattle.store.proofs.Records.{data-other, records-end, records-step,
 -- ---- by kinds
 
 module _ (f : Follow) (k to : ℕ) where
+  pub after-data : isData k ≡ true → f ≡ followsBy f k to
+  unfolding followsBy
+  after-data d = let o = data-other k d in rw (o .0, o .1 .0, o .1 .1)
+
+  pub after-edit : isEdit k ≡ true → record { edits = true; bytes = true; end = to } ≡ followsBy f k to
+  unfolding followsBy
+  after-edit c = let is : k ≡ 3 = eqb-true k 3 c in rw is
+
   pub after-whole : isWhole k ≡ true → record { edits = false; bytes = true; end = 0 } ≡ followsBy f k to
   unfolding followsBy
   after-whole a = rw a
@@ -25,42 +33,36 @@ module _ (f : Follow) (k to : ℕ) where
     unfolding followsBy
     after-delta b = rw (a, b)
 
-    module _ (b : isDelta k ≡ false) where
-      pub after-edit : isEdit k ≡ true → record { edits = true; bytes = true; end = to } ≡ followsBy f k to
-      unfolding followsBy
-      after-edit c = rw (a, b, c)
-
-      pub after-other : isEdit k ≡ false → f ≡ followsBy f k to
-      unfolding followsBy
-      after-other c = rw (a, b, c)
+    pub after-other : isDelta k ≡ false → isEdit k ≡ false → f ≡ followsBy f k to
+    unfolding followsBy
+    after-other b c = rw (a, b, c)
 
 module _ (f : Follow) (k group from : ℕ) where
+  pub allow-data : isData k ≡ true → f .bytes ≡ allowedBy f k group from
+  unfolding allowedBy
+  allow-data d = let o = data-other k d in rw (o .0, o .1 .0, o .1 .1, d)
+
+  module _ (c : isEdit k ≡ true) where
+    pub allow-no-edit : f .edits ≡ false → false ≡ allowedBy f k group from
+    unfolding allowedBy
+    allow-no-edit e = let is : k ≡ 3 = eqb-true k 3 c in rw (is, e)
+
+    pub allow-edit : f .edits ≡ true → leb (f .end) from ≡ allowedBy f k group from
+    unfolding allowedBy
+    allow-edit e = let is : k ≡ 3 = eqb-true k 3 c in rw (is, e)
+
   pub allow-whole : isWhole k ≡ true → ltb group 16 ≡ allowedBy f k group from
   unfolding allowedBy
   allow-whole a = rw a
 
-  module _ (a : isWhole k ≡ false) where
-    pub allow-delta : isDelta k ≡ true → true ≡ allowedBy f k group from
-    unfolding allowedBy
-    allow-delta b = rw (a, b)
-
-    module _ (b : isDelta k ≡ false) where
-      pub allow-no-edit : isEdit k ≡ true → f .edits ≡ false → false ≡ allowedBy f k group from
-      unfolding allowedBy
-      allow-no-edit c e = rw (a, b, c, e)
-
-      pub allow-edit : isEdit k ≡ true → f .edits ≡ true → leb (f .end) from ≡ allowedBy f k group from
-      unfolding allowedBy
-      allow-edit c e = rw (a, b, c, e)
-
-      module _ (c : isEdit k ≡ false) where
-        pub allow-unknown : isData k ≡ false → false ≡ allowedBy f k group from
-        unfolding allowedBy
-        allow-unknown d = rw (a, b, c, d)
-
-        pub allow-data : isData k ≡ true → f .bytes ≡ allowedBy f k group from
-        unfolding allowedBy
-        allow-data d = rw (a, b, c, d)
+  -- a delta may stand anywhere, an unknown kind nowhere
+  pub allow-rest : isWhole k ≡ false → isEdit k ≡ false → isData k ≡ false → isDelta k ≡ allowedBy f k group from
+  unfolding allowedBy
+  allow-rest a c d = rw (a, c, d) (go (isDelta k))
+    where
+      go : (b : Bool) → b ≡ cond b true false
+      go true = refl
+      go false = refl
 
 -- ---- by place: a body of data is read for numbers that do not matter
 
@@ -72,9 +74,7 @@ module _ (store : List ℕ) (at : ℕ) (f : Follow) where
   allowed-here = go (isData kind) refl
     where
       go : (b : Bool) → isData kind ≡ b → allowedBy f kind (getD store (at + 3) 0) (pairAt store (at + 1)) ≡ allowed f (recordAt store at)
-      go true d =
-          let o = data-other kind d in
-          sym (allow-data f kind _ _ (o .0) (o .1 .0) (o .1 .1) d) ∙ allow-data f kind _ _ (o .0) (o .1 .0) (o .1 .1) d
+      go true d = sym (allow-data f kind _ _ d) ∙ allow-data f kind _ _ d
       go false d =
           let p : at + 1 + 2 ≡ at + 3 = omega arith in
           let q : at + 1 + 0 ≡ at + 1 = omega arith in
@@ -85,9 +85,7 @@ module _ (store : List ℕ) (at : ℕ) (f : Follow) where
   follows-here = go (isData kind) refl
     where
       go : (b : Bool) → isData kind ≡ b → followsBy f kind (pairAt store (at + 3)) ≡ follows f (recordAt store at)
-      go true d =
-          let o = data-other kind d in
-          sym (after-other f kind _ (o .0) (o .1 .0) (o .1 .1)) ∙ after-other f kind _ (o .0) (o .1 .0) (o .1 .1)
+      go true d = sym (after-data f kind _ d) ∙ after-data f kind _ d
       go false d =
           let p : at + 1 + 2 ≡ at + 3 = omega arith in
           ap (followsBy f kind) (ap (pairAt store) (sym p) ∙ sym (body-pair store at 2 d (omega arith)))

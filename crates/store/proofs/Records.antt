@@ -1,13 +1,13 @@
 -- The record at a place of the store, and those behind it. Assumes nothing.
 use mathlib.Core.Path.{_≡_, refl, sym, ap, _∙_}
-use mathlib.Core.Bool.{Bool, true, false, _&&_}
+use mathlib.Core.Bool.{Bool, true, false, _&&_, _||_}
 use mathlib.Core.List.{List, [], _∷_}
 use Prim.Native.Nat.{ℕ, zero, suc, _+_, _-_, _≤_, _<_}
 use native.Mathlib.Omega.{arith}
-use lib.Dec.{leb}
+use lib.Dec.{eqb, leb}
 use lib.ListN.{length, getD, take, drop, length-drop, drop-of-length-le}
 use lib.Seq.{take-all, drop-cons, drop-drop, getD-take, getD-drop}
-use borrow.Author.Tests.{ne-eqb, le-leb, lt-leb, leb-true}
+use borrow.Author.Tests.{eq-eqb, ne-eqb, le-leb, lt-leb, leb-true}
 use Rattle.store.specs.Store.{isWhole, isDelta, isEdit, isData, bodySize, Record, recordsAfter, recordsOf, pairAt}
 use Rattle.store.specs.Places.{recordAt, nextAt}
 
@@ -43,7 +43,17 @@ body-other k e = rw e
 
 -- data is no other kind
 pub data-other : (k : ℕ) → isData k ≡ true → (isWhole k ≡ false) × ((isDelta k ≡ false) × (isEdit k ≡ false))
-data-other k e = let r = data-range k e in (ne-eqb k 1 (λ q. omega arith), (ne-eqb k 2 (λ q. omega arith), ne-eqb k 3 (λ q. omega arith)))
+data-other k e =
+    let r = data-range k e in
+    let no : (n : ℕ) → n < 129 → eqb k n ≡ false = λ n h. ne-eqb k n (λ q. omega arith) in
+    rw (no 1 (omega arith), no 17 (omega arith), no 2 (omega arith), no 18 (omega arith)) (refl, (refl, no 3 (omega arith)))
+
+-- one kind, or another
+pub kind-first : {k n : ℕ} (b : Bool) → k ≡ n → true ≡ (eqb k n || b)
+kind-first {k} {n} b e = rw (eq-eqb k n e)
+
+pub kind-second : {k n : ℕ} (b : Bool) → (k ≡ n → ⊥) → b ≡ (eqb k n || b)
+kind-second {k} {n} b e = rw (ne-eqb k n e)
 
 -- ---- places
 

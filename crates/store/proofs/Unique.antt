@@ -2,7 +2,9 @@
 use mathlib.Core.Path.{_≡_, refl, sym, ap, _∙_}
 use Prim.Native.Nat.{ℕ}
 use Rattle.refusal.specs.Answer.{Answer, gives, refused}
-use Rattle.refusal.proofs.Laws.{faultBack, fault-back}
+use Rattle.refusal.specs.Number.{numberOf}
+use Rattle.refusal.specs.declared.Refusal.{Refusal}
+use Rattle.refusal.proofs.Laws.{faultBack, fault-back, name-of-number, Named, named}
 use Rattle.refusal.proofs.Tight.{FixesResult, once}
 use Rattle.store.specs.Meaning.{checkedMeaning}
 use Rattle.store.specs.declared.Checked.{Checked}
@@ -10,13 +12,18 @@ use Rattle.store.specs.declared.Checked.the-variants as checked
 use Rattle.store.proofs.check.Kinds as check-kinds
 use Rattle.store.proofs.check.Reads as check
 
-abbrev back : Answer ℕ → Checked
-back (gives count) = checked.Dumps count
-back (refused number place) = checked.Refused (faultBack number place)
+abbrev pub checkedBack : Answer ℕ → Checked
+checkedBack (gives count) = checked.Dumps count
+checkedBack (refused number place) = checked.Refused (faultBack number place)
 
-back-of : (x : Checked) → back (checkedMeaning x) ≡ x
-back-of (checked.Dumps count) = refl
-back-of (checked.Refused fault) = ap checked.Refused (fault-back fault)
+checked-back : (x : Checked) → checkedBack (checkedMeaning x) ≡ x
+checked-back (checked.Dumps count) = refl
+checked-back (checked.Refused fault) = ap checked.Refused (fault-back fault)
 
 check-unique : FixesResult 1 check-kinds.ps check-kinds.r check.Post
-check-unique κs a x y s t p q = once checkedMeaning back back-of x y (p ∙ sym q)
+check-unique κs a x y s t p q = once checkedMeaning checkedBack checked-back x y (p ∙ sym q)
+
+-- each outcome whose refusals have names is the meaning of an answer
+pub checked-meant : (answer : Answer ℕ) → Named answer → checkedMeaning (checkedBack answer) ≡ answer
+checked-meant (gives count) h = refl
+checked-meant (refused number place) (named r) = ap (λ (n : Refusal). refused (numberOf n) place) (name-of-number r)

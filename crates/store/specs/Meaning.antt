@@ -4,7 +4,7 @@ use mathlib.Core.Path.{_≡_}
 use mathlib.Core.Bool.{true, false}
 use mathlib.Core.Option.{Option, none, some}
 use mathlib.Core.List.{List}
-use Prim.Native.Nat.{ℕ, _≤_}
+use Prim.Native.Nat.{ℕ, _≤_, _<_}
 use lib.ListN.{length, take}
 use Rattle.refusal.specs.Answer.{Answer, gives}
 use Rattle.refusal.specs.Meaning.{faultOf}
@@ -48,7 +48,13 @@ abbrev pub Stands : List ℕ → Found → Type 0
 Stands store (found.At at) = Begins store at
 Stands store found.Nothing = Unit {0}
 
+-- and stands inside the store, wherever it was looked for
+abbrev pub FoundInside : List ℕ → Found → Type 0
+FoundInside store (found.At at) = at < length store
+FoundInside store found.Nothing = Unit {0}
+
 -- the dump of a number, among the places of all dumps
 pub record Finds (store places : List ℕ) (number : ℕ) (r : Found) : Type 0 where
+  pub inside : FoundInside store r
   pub is : Noted store places → foundMeaning store r ≡ held (dumpsOf store) number
   pub stands : Noted store places → Stands store r

@@ -1,10 +1,10 @@
 -- Where records and dumps stand in the store. For the code's own promises; no public promise needs it.
 -- Assumes nothing.
 use mathlib.Core.Path.{_≡_}
-use mathlib.Core.Bool.{Bool, true, false, _||_}
+use mathlib.Core.Bool.{Bool, true, false, _&&_, _||_}
 use mathlib.Core.List.{List, [], _∷_, _++_, map}
-use Prim.Native.Nat.{ℕ, suc, _+_, _*_, _/_, _%_, _^_, _≤_, _<_}
-use lib.Dec.{eqb}
+use Prim.Native.Nat.{ℕ, suc, _+_, _/_, _%_, _^_, _≤_, _<_}
+use lib.Dec.{eqb, ltb}
 use lib.ListN.{length, getD, take, drop}
 use Rattle.ump.specs.Edits.{Patch, elem}
 use Rattle.store.specs.Store.{isDump, Record, bodySize, recordsOf, Dump, dumpOf, dumpsOf, numbersOf, twice}
@@ -57,9 +57,9 @@ pub record Noted (store places : List ℕ) : Type 0 where
 abbrev pub flagged : List ℕ → ℕ → Bool
 flagged table n = eqb (getD table (n / 8) 0 / 2 ^ (n % 8) % 2) 1
 
--- the flag of a number is set, and no other is changed
+-- the flag of a number is set, where the table has it, and no other is changed
 abbrev pub Flags : List ℕ → ℕ → List ℕ → Type 0
-Flags before n after = (m : ℕ) → flagged after m ≡ (eqb m n || flagged before m)
+Flags before n after = (m : ℕ) → flagged after m ≡ ((ltb (n / 8) (length before) && eqb m n) || flagged before m)
 
 -- One pass over the records, come to a place: so many dumps are passed, with these numbers, no two of which are the same; the numbers
 -- used are flagged, and the places are noted as far as there is room.

@@ -27,11 +27,14 @@ pub record Samples : Type 0 where
   pub highest-first : dumpsOf (0x02 ∷ 1 ∷ 0 ∷ 0 ∷ 2 ∷ []) ≡ delta 256 2 [] ∷ []
   -- how many there are; the empty store is good, and so is a base that stands behind its delta
   pub counts : (check [] ≡ gives 0) × (check (two ++ one) ≡ gives 2)
-  -- Format: unknown kinds, 11 and 12 hex among them; a short body; data behind a delta; an edit behind a whole dump; either at the start;
+  -- a dump that is not wanted any more is read as before
+  pub unwanted : (dumpsOf (0x12 ∷ 0 ∷ 2 ∷ 0 ∷ 1 ∷ (0x11 ∷ 0 ∷ 1 ∷ 2 ∷ 7 ∷ (0x81 ∷ 0x41 ∷ []))) ≡ delta 2 1 [] ∷ whole 1 2 7 (0x41 ∷ []) ∷ [])
+      × (check (0x12 ∷ 0 ∷ 2 ∷ 0 ∷ 1 ∷ (0x11 ∷ 0 ∷ 1 ∷ 2 ∷ 7 ∷ (0x81 ∷ 0x41 ∷ []))) ≡ gives 2)
+  -- Format: unknown kinds, 10 and 13 hex among them; a short body; data behind a delta; an edit behind a whole dump; either at the start;
   -- group 16; an edit that begins before the end of the one before it
   pub unknown : (check (one ++ (0x04 ∷ [])) ≡ refused 21 0)
-      × (check (0x11 ∷ 0 ∷ 1 ∷ 2 ∷ 7 ∷ []) ≡ refused 21 0)
-      × (check (0x12 ∷ 0 ∷ 1 ∷ 0 ∷ 2 ∷ []) ≡ refused 21 0)
+      × (check (0x10 ∷ 0 ∷ 1 ∷ 2 ∷ 7 ∷ []) ≡ refused 21 0)
+      × (check (bare 2 1 ++ (0x13 ∷ 0 ∷ 1 ∷ 0 ∷ 1 ∷ [])) ≡ refused 21 0)
       × (check (one ++ (0x80 ∷ [])) ≡ refused 21 0)
       × (check (one ++ (0x8E ∷ one)) ≡ refused 21 0)
   pub short : (check (one ++ (0x82 ∷ 1 ∷ [])) ≡ refused 21 0) × (check (0x01 ∷ 0 ∷ 1 ∷ 2 ∷ []) ≡ refused 21 0)
@@ -46,7 +49,8 @@ pub record Samples : Type 0 where
       × (check (one ++ (bare 2 1 ++ edit 2 1)) ≡ gives 2)
       × (check (one ++ (bare 2 1 ++ (edit 0 2 ++ (bare 3 1 ++ edit 1 1)))) ≡ gives 3)
   -- Twice, a whole dump's number or a delta's; Format first, though it stands behind
-  pub used-twice : (check (one ++ bare 1 1) ≡ refused 22 0) × (check (one ++ (bare 1 1 ++ (0x04 ∷ []))) ≡ refused 21 0)
+  pub used-twice : (check (one ++ bare 1 1) ≡ refused 22 0) × (check (one ++ (0x12 ∷ 0 ∷ 1 ∷ 0 ∷ 1 ∷ [])) ≡ refused 22 0)
+      × (check (one ++ (bare 1 1 ++ (0x04 ∷ []))) ≡ refused 21 0)
 
 pub samples : Samples
 unfolding isData bodySize recordsAfter followsBy allowedBy wellFormed dataIn patchesIn dumpOf dumpsIn twice sound
@@ -55,11 +59,12 @@ samples =
       dumps = refl;
       highest-first = refl;
       counts = (refl, refl);
+      unwanted = (refl, refl);
       unknown = (refl, refl, refl, refl, refl);
       short = (refl, refl);
       misplaced = (refl, refl, refl, refl);
       group = refl;
       order = refl;
       ordered = (refl, refl, refl);
-      used-twice = (refl, refl);
+      used-twice = (refl, refl, refl);
     }

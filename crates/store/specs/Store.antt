@@ -1,4 +1,4 @@
--- The store of dumps (02, T-02): its records, what may follow what, and the dumps that they make.
+-- The store of dumps (02, T-02 and T-13): its records, what may follow what, and the dumps that they make.
 -- Assumes nothing.
 use mathlib.Core.Bool.{Bool, true, false, cond, not, _&&_, _||_}
 use mathlib.Core.Option.{Option, none, some}
@@ -12,11 +12,16 @@ use Rattle.store.specs.declared.format.Follow.{Follow}
 
 -- ---- records: one byte of kind, then a body whose length the kind fixes
 
+-- 11 and 12 hex are 01 and 02 of a dump that is not wanted any more, and are else read as these (T-13)
 abbrev pub isWhole : ℕ → Bool
-isWhole kind = eqb kind 0x01
+isWhole kind = eqb kind 0x01 || eqb kind 0x11
 
 abbrev pub isDelta : ℕ → Bool
-isDelta kind = eqb kind 0x02
+isDelta kind = eqb kind 0x02 || eqb kind 0x12
+
+-- it begins a dump that is wanted
+abbrev pub isWanted : ℕ → Bool
+isWanted kind = eqb kind 0x01 || eqb kind 0x02
 
 abbrev pub isDump : ℕ → Bool
 isDump kind = isWhole kind || isDelta kind
@@ -48,7 +53,7 @@ recordsOf store = recordsAfter 0 store
 abbrev pub pairAt : List ℕ → ℕ → ℕ
 pairAt bytes i = getD bytes i 0 * 256 + getD bytes (i + 1) 0
 
--- ---- Format: (01 data* | 02 (03 data*)*)*
+-- ---- Format: (01 data* | 02 (03 data*)*)*, where 11 stands for 01 and 12 for 02 as well
 
 -- A `Follow` is what may follow a record besides a dump: edits, that begin no earlier than at `end`; data. At the start neither may come.
 abbrev pub atStart : Follow
@@ -104,7 +109,7 @@ patchesIn (r ∷ rs) =
     cond (isEdit (r .kind)) (record { from = pairAt (r .body) 0; to = pairAt (r .body) 2; bytes = dataIn rs } ∷ patchesIn rs)
     (cond (isData (r .kind)) (patchesIn rs) [])
 
--- the dump of a 01 or 02 and the records after it
+-- the dump of a record that begins one, and the records after it
 unfoldable pub dumpOf : Record → List Record → Dump
 dumpOf r rs =
     cond (isWhole (r .kind)) (whole (pairAt (r .body) 0) (getD (r .body) 2 0) (getD (r .body) 3 0) (dataIn rs))

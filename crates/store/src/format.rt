@@ -1,4 +1,4 @@
-// The grammar of the store: (01 data* | 02 (03 data*)*)*.
+// The grammar of the store: (01 data* | 02 (03 data*)*)*, where 11 stands for 01 and 12 for 02 as well.
 ghost use mathlib.Core.Path.{_≡_};
 ghost use Prim.Native.Nat.{_<_};
 ghost use lib.ListN.{length};
@@ -21,10 +21,21 @@ pub struct Follow {
     pub end: usize,
 }
 
-// What may follow a record of this kind; `to` is an edit's second number.
+// What may follow a record of this kind; `to` is an edit's second number. Data and edits, which most records are, are looked for
+// first.
 fn after(follow: Follow, kind: u8, to: usize) -> Follow
     ensures { λ r. ⌜ r ≡ followsBy follow kind to ⌝ }
 {
+    if is_data(kind) {
+        return follow;
+    }
+    if is_edit(kind) {
+        return Follow {
+            edits: true,
+            bytes: true,
+            end: to,
+        };
+    }
     if is_whole(kind) {
         return Follow {
             edits: false,
@@ -39,13 +50,6 @@ fn after(follow: Follow, kind: u8, to: usize) -> Follow
             end: 0,
         };
     }
-    if is_edit(kind) {
-        return Follow {
-            edits: true,
-            bytes: true,
-            end: to,
-        };
-    }
     follow
 }
 
@@ -53,11 +57,8 @@ fn after(follow: Follow, kind: u8, to: usize) -> Follow
 fn is_allowed(follow: Follow, kind: u8, group: u8, from: usize) -> bool
     ensures { λ r. ⌜ r ≡ allowedBy follow kind group from ⌝ }
 {
-    if is_whole(kind) {
-        return group < 16;
-    }
-    if is_delta(kind) {
-        return true;
+    if is_data(kind) {
+        return follow.bytes;
     }
     if is_edit(kind) {
         if !follow.edits {
@@ -65,10 +66,10 @@ fn is_allowed(follow: Follow, kind: u8, group: u8, from: usize) -> bool
         }
         return follow.end <= from;
     }
-    if !is_data(kind) {
-        return false;
+    if is_whole(kind) {
+        return group < 16;
     }
-    follow.bytes
+    is_delta(kind)
 }
 
 // Whether the record at a place is whole and may stand here.

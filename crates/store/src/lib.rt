@@ -1,6 +1,6 @@
-// The store of dumps (02, T-02): records in bytes, what may follow what, and the dumps that they make.
+// The store of dumps (02, T-02 and T-13): records in bytes, what may follow what, and the dumps that they make.
 pub mod finding;
-mod flags;
+pub mod flags;
 pub mod format;
 mod numbers;
 pub mod record;

@@ -2,7 +2,7 @@
 ghost use mathlib.Core.Path.{_≡_};
 ghost use Prim.Native.Nat.{_<_};
 ghost use lib.ListN.{getD};
-ghost use Rattle.store.specs.Store.{isWhole, isDelta, isDump, isEdit, isData, bodySize, pairAt};
+ghost use Rattle.store.specs.Store.{isWhole, isDelta, isWanted, isDump, isEdit, isData, bodySize, pairAt};
 ghost use Rattle.store.specs.Places.{Behind, HasBody};
 
 // The byte at a place; zero past the end.
@@ -15,17 +15,33 @@ pub fn byte(store: &[u8], at: usize) -> u8
     0
 }
 
-// Whether a record of this kind begins a whole dump.
+// Whether a record of this kind begins a whole dump: 01, and 11 where the dump is not wanted any more.
 pub fn is_whole(kind: u8) -> bool
     ensures { λ r. ⌜ r ≡ isWhole kind ⌝ }
 {
-    kind == 0x01
+    if kind == 0x01 {
+        return true;
+    }
+    kind == 0x11
 }
 
-// Whether a record of this kind begins a delta.
+// Whether a record of this kind begins a delta: 02, and 12 where it is not wanted any more.
 pub fn is_delta(kind: u8) -> bool
     ensures { λ r. ⌜ r ≡ isDelta kind ⌝ }
 {
+    if kind == 0x02 {
+        return true;
+    }
+    kind == 0x12
+}
+
+// Whether a record of this kind begins a dump that is wanted.
+pub fn is_wanted(kind: u8) -> bool
+    ensures { λ r. ⌜ r ≡ isWanted kind ⌝ }
+{
+    if kind == 0x01 {
+        return true;
+    }
     kind == 0x02
 }
 
@@ -33,6 +49,9 @@ pub fn is_delta(kind: u8) -> bool
 pub fn is_dump(kind: u8) -> bool
     ensures { λ r. ⌜ r ≡ isDump kind ⌝ }
 {
+    if kind > 0x12 {
+        return false;
+    }
     if is_whole(kind) {
         return true;
     }

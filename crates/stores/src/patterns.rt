@@ -2,7 +2,9 @@
 
 // How a store is laid out: whole dumps without data, numbered from 0, or from 0 to 255 and again; deltas of the next number, 255 of 0;
 // deltas numbered from 1, each of the number below; a whole dump of six bytes and deltas numbered from 1, each of the number below with
-// its own number put in at 0; a whole dump 1 of full data records; a whole dump 1 without data and a delta 2 that puts them in.
+// its own number put in at 0; a whole dump 1 of full data records; a whole dump 1 without data and a delta 2 that puts them in. Of the
+// chain also: from this number down to 0; with the dumps below this number unwanted. And a star: a whole dump 0 without data, and deltas
+// of it, numbered from 1, or by even numbers alone.
 pub enum Pattern {
     Wholes,
     Again,
@@ -11,6 +13,10 @@ pub enum Pattern {
     Chain,
     Data,
     EditData,
+    Down(usize),
+    Unwanted(usize),
+    Star,
+    Evens,
 }
 
 // The higher and the lower byte of a number.
@@ -61,6 +67,35 @@ fn link_byte(number: usize, index: usize) -> u8 {
     }
 }
 
+// The byte at an index of the chain from a number down to 0.
+fn down_byte(top: usize, index: usize) -> u8 {
+    let passed = index / 12;
+    if passed > top {
+        return 0;
+    }
+    link_byte(top - passed, index % 12)
+}
+
+// The byte at an index of the chain whose dumps below a number are unwanted.
+fn unwanted_byte(below: usize, index: usize) -> u8 {
+    let number = index / 12;
+    if index % 12 != 0 {
+        return link_byte(number, index % 12);
+    }
+    if number >= below {
+        return link_byte(number, 0);
+    }
+    if number == 0 { 0x11 } else { 0x12 }
+}
+
+// The byte at an index of the dump in a star.
+fn ray_byte(number: usize, index: usize) -> u8 {
+    if number == 0 {
+        return whole_byte(0, index);
+    }
+    delta_byte(number, 0, index)
+}
+
 // The byte at an index of full data records, whose data counts up.
 fn data_byte(index: usize) -> u8 {
     if index % 14 == 0 {
@@ -104,6 +139,10 @@ fn byte_of(pattern: Pattern, index: usize) -> u8 {
             }
             data_byte(index - 15)
         }
+        Pattern::Down(top) => down_byte(top, index),
+        Pattern::Unwanted(below) => unwanted_byte(below, index),
+        Pattern::Star => ray_byte(dump, index % 5),
+        Pattern::Evens => ray_byte(dump * 2, index % 5),
     }
 }
 

@@ -5,7 +5,7 @@ use Prim.Native.Nat.{_-_}
 use lib.ListN.{length}
 use Rattle.store.specs.Store.{held, dumpsOf}
 use Rattle.store.specs.Places.{Noted}
-use Rattle.store.proofs.Standing.{standing, find-start, find-here, find-past, find-end}
+use Rattle.store.proofs.Standing.{standing, test-inside, find-start, find-here, find-past, find-end}
 use Rattle.store.proofs.finding.find.Statement.{statement}
 use Rattle.store.proofs.finding.find.Tie as tie
 
@@ -24,9 +24,11 @@ returns c =
     let i = n .before .before in
     let l = i .before in
     let x = l .before .before .before .args in
+    let numbered = sym (n .is-numbered .ensures) ∙ c .if1 .taken in
     record {
+      inside = test-inside (x .store .now) (x .places .now) (x .number) (l .loop .index) numbered;
       is = λ noted.
-          find-here (x .store .now) (x .places .now) (x .number) (l .loop .index) (i .loop-test .taken) (noted .begin (l .loop .index) (i .loop-test .taken)) (sym (n .is-numbered .ensures) ∙ c .if1 .taken)
+          find-here (x .store .now) (x .places .now) (x .number) (l .loop .index) (i .loop-test .taken) (noted .begin (l .loop .index) (i .loop-test .taken)) numbered
           ∙ sym (l .loop .inv noted);
       stands = λ noted. noted .begin (l .loop .index) (i .loop-test .taken);
     }
@@ -44,7 +46,7 @@ returns-2 : tie.Need-returns-2 Inv-loop μ-loop
 returns-2 c =
     let l = c .before in
     let x = l .before .before .before .args in
-    record { is = λ noted. find-end (x .store .now) (x .places .now) (x .number) (l .loop .index) (c .loop-test .left) ∙ sym (l .loop .inv noted); stands = λ noted. tt }
+    record { inside = tt; is = λ noted. find-end (x .store .now) (x .places .now) (x .number) (l .loop .index) (c .loop-test .left) ∙ sym (l .loop .inv noted); stands = λ noted. tt }
 
 pub find-spec : {M : Type 1} → statement M
 find-spec =

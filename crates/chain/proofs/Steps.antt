@@ -13,7 +13,7 @@ use Rattle.chain.specs.Restore.{Payload, roomed, rebuilt, restoredBy, re
 use Rattle.store.specs.Places.{recordAt, nextAt, recordsFrom, dumpAt}
 use Rattle.store.specs.declared.finding.Found.{Found}
 use Rattle.store.specs.declared.finding.Found.the-variants as found
-use Rattle.store.specs.Meaning.{Stands}
+use Rattle.store.specs.Meaning.{Stands, FoundInside}
 use Rattle.chain.specs.Laying.{wholeAt}
 use Rattle.store.proofs.Records.{data-low, body-byte, body-pair}
 use Rattle.store.proofs.Dumps.{dump-small}
@@ -101,3 +101,6 @@ module _ (tooLong : ℕ → Bool) (store : List ℕ) (left n : ℕ) (h : left �
 -- what was found stands there
 pub found-at : (store : List ℕ) {r : Found} {at : ℕ} → Stands store r → r ≡ found.At at → (at < length store) × (isDump (getD store at 0) ≡ true)
 found-at store l e = rw e at l
+
+pub found-within : (store : List ℕ) {r : Found} {at : ℕ} → FoundInside store r → r ≡ found.At at → at < length store
+found-within store l e = rw e at l

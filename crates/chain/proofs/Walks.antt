@@ -121,7 +121,7 @@ pub held-is : (ds : List Dump) (n : ℕ) {d : Dump} → held ds n ≡ some d →
 held-is ds n {d} e = held-by n d (λ ds. dumpNumber d ≡ n) (λ ds q. sym q) (λ c ds h. h) ds e
 
 -- which is one of theirs
-held-number : (ds : List Dump) (n : ℕ) {d : Dump} → held ds n ≡ some d → elem n (numbersOf ds) ≡ true
+pub held-number : (ds : List Dump) (n : ℕ) {d : Dump} → held ds n ≡ some d → elem n (numbersOf ds) ≡ true
 held-number ds n {d} e =
     held-by n d (λ ds. elem n (numbersOf ds) ≡ true) (λ ds q. rw (eq-eqb n (dumpNumber d) q))
     (λ c ds h. or-right (eqb n (dumpNumber c)) h) ds e
@@ -145,8 +145,13 @@ from-held ds n m e = go (held ds n) refl e
 -- ---- the count is enough: a walk that passes more dumps than there are comes again to a number already passed
 
 module _ (ds : List Dump) (n : ℕ) where
-  pub over-ring : (m : ℕ) → comes ds (suc (length ds)) n ≡ some m → InRing ds n
-  over-ring m e =
+  -- a ring that is closed so soon
+  pub record Soon : Type 0 where
+    pub in-ring : InRing ds n
+    pub soon : in-ring .later ≤ length ds
+
+  pub over-soon : (m : ℕ) → comes ds (suc (length ds)) n ≡ some m → Soon
+  over-soon m e =
       let s : ℕ → ℕ = λ i. Option·getD (comes ds i n) 0 in
       let is : (i : ℕ) → i < suc (length ds) → comes ds i n ≡ some (s i) = λ i h.
       let v = comes-before ds n i (suc (length ds)) m (omega arith) e in
@@ -158,13 +163,19 @@ module _ (ds : List Dump) (n : ℕ) where
       rw same at (from-held ds (v .middle) (w .middle) (v .second)) in
       let t = pigeons (length ds) (numbersOf ds) s (length-map ds dumpNumber) on in
       record {
-        earlier = t .earlier;
-        later = t .later;
-        number = s (t .later);
-        before = t .before;
-        passed = is (t .earlier) (omega (arith, t .before, t .inside)) ∙ ap (λ (k : ℕ). some k) (t .same);
-        again = is (t .later) (t .inside);
+        in-ring = record {
+          earlier = t .earlier;
+          later = t .later;
+          number = s (t .later);
+          before = t .before;
+          passed = is (t .earlier) (omega (arith, t .before, t .inside)) ∙ ap (λ (k : ℕ). some k) (t .same);
+          again = is (t .later) (t .inside);
+        };
+        soon = omega (arith, t .inside);
       }
+
+  pub over-ring : (m : ℕ) → comes ds (suc (length ds)) n ≡ some m → InRing ds n
+  over-ring m e = over-soon m e .in-ring
 
   -- ---- a ring never ends
 

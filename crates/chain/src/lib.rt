@@ -6,11 +6,10 @@ ghost use mathlib.Core.Path.{_≡_};
 ghost use Prim.Native.Nat.{suc, _≤_};
 ghost use lib.ListN.{length};
 ghost use Rattle.refusal.specs.Answer.{pass};
-ghost use Rattle.store.specs.Store.{dumpsOf, held, sound};
+ghost use Rattle.store.specs.Store.{dumpsOf, sound};
 ghost use Rattle.store.specs.Places.{Noted};
-ghost use Rattle.chain.specs.Walk.{baseOf};
 ghost use Rattle.chain.specs.Restore.{described, describe as describeOf};
-ghost use Rattle.chain.specs.Meaning.{basisMeaning, describedMeaning};
+ghost use Rattle.chain.specs.Meaning.{Bases, describedMeaning};
 use measuring::Measured;
 use refusal::Fault;
 use splice::sysex8::words_needed;
@@ -43,10 +42,9 @@ pub enum Described {
     Refused(Fault),
 }
 
-// What the dump of this number is.
-fn basis_of(store: &[u8], places: &[usize], number: usize) -> Basis
-    requires { ⌜ Noted (now store) (now places) ⌝ }
-    ensures { λ r. ⌜ basisMeaning r ≡ baseOf (held (dumpsOf (now (store .entry))) number) ⌝ }
+// What the dump of this number is, among those that stand at these places; a number not held has no base.
+pub fn basis_of(store: &[u8], places: &[usize], number: usize) -> Basis
+    ensures { λ r. ⌜ Bases (now (store .entry)) (now (places .entry)) number r ⌝ }
 {
     let found = store::finding::find(store, places, number);
     match found {

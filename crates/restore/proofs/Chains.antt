@@ -321,7 +321,7 @@ module _ {Restores : Restorer} {Describes : Describer} (promised : Promised Rest
         from (inr g) = inr (g .0, got-refused (g .1) .0)
 
   -- two calls whose definitions agree
-  alike : {store other : List ℕ} {n m : ℕ} {words : List ℕ} {answer then : Answer ℕ} {left after : List ℕ}
+  pub alike : {store other : List ℕ} {n m : ℕ} {words : List ℕ} {answer then : Answer ℕ} {left after : List ℕ}
       → Restores store n words answer left → Restores other m words then after → restore store n words ≡ restore other m words
       → (answer ≡ then) × (left ≡ after)
   alike {answer = answer} {then} {left} {after} c d e =

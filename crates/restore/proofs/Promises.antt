@@ -19,7 +19,7 @@ use Rattle.restore.proofs.Splices as splices
 abbrev lent : List ℕ → RefT (List ℕ)
 lent list = record { ptr = (0, 0); name = 0; now = list }
 
-promised : Promised Restores Describes
+pub promised : Promised Restores Describes
 promised =
     record {
       restores = λ r. let g = r .given in rw (g .0, g .1, g .2, r .left, r .answer-is) at (r .promise);

@@ -29,7 +29,7 @@ returns-2 c =
     let s = m .before .before .before in
     let x = s .args in
     let count : length (x .places .now) + 1 ≡ suc (length (dumpsOf (x .store .now))) = omega (arith, noted-count (x .store .now) (x .places .now) (s .pre .0)) in
-    described-given (dumpsOf (x .store .now)) (length (x .places .now) + 1) (x .number) _ (m .measure .ensures .dump _ (k .measured2 .given .1)) (b .basis-of .ensures) (c .words-needed .ensures)
+    described-given (dumpsOf (x .store .now)) (length (x .places .now) + 1) (x .number) _ (m .measure .ensures .dump _ (k .measured2 .given .1)) (b .basis-of .ensures .is (s .pre .0)) (c .words-needed .ensures)
     ∙ ap (λ (i : ℕ). described (dumpsOf (x .store .now)) i (x .number)) count
 
 pub describe-noted-spec : {M : Type 1} → statement M

@@ -1,10 +1,12 @@
--- What is said of restoring and describing a dump, over the promises of the exported calls. Assumes nothing.
+-- What is said of a store of dumps, over the promises of the exported calls. Assumes nothing.
 use mathlib.Core.Path.{_≡_, refl, sym, ap, _∙_}
 use mathlib.Core.Option.{Option, none, some}
 use mathlib.Core.List.{List, []}
 use Prim.Native.Nat.{ℕ}
-use Rattle.refusal.specs.Answer.{Answer, gives, refused}
+use Rattle.refusal.specs.Answer.{Answer, gives, refused, Verdict}
 use Rattle.ump.proofs.Numbered.{Numbered, numbered, from-named}
+use Rattle.store.specs.Store.{check}
+use Rattle.store.proofs.Checks.{check-named}
 use Rattle.chain.specs.Restore.{restore, Description, describe}
 use Rattle.chain.specs.Chained.{Chained}
 use Rattle.chain.specs.Audit.{AuditedDump}
@@ -12,11 +14,15 @@ use Rattle.chain.proofs.Named.{restore-named, describe-named}
 use Rattle.restore.proofs.Chains as laws
 use Rattle.restore.proofs.Chains.{Promised}
 use Rattle.restore.proofs.Splices as splices
-use Rattle.latchbeacon.specs.Answers.{leaving, numberAnswer, dumpAnswer}
-use Rattle.latchbeacon.proofs.Worker.{numberRead, family}
+use Rattle.reclaim.specs.Reclaim.{mark, collect}
+use Rattle.reclaim.specs.Reclaimed.{Reclaimed}
+use Rattle.reclaim.proofs.Unique.{mark-named, collect-named}
+use Rattle.reclaim.proofs.Reclaims as reclaims
+use Rattle.answers.specs.Answers.{leaving, numberAnswer, doneAnswer, dumpAnswer}
+use Rattle.latchbeacon.proofs.Worker.{numberRead, doneRead, family}
 use Rattle.latchbeacon.proofs.Demand as demand
-use Rattle.latchbeacon.proofs.Demand.{read-refused, number-read, read-leaving, lent}
-use Rattle.latchbeacon.proofs.Restorer.{dumpRead, Restores, Describes}
+use Rattle.latchbeacon.proofs.Demand.{read-refused, number-read, done-read, read-leaving, lent}
+use Rattle.latchbeacon.proofs.Restorer.{dumpRead, Restores, Describes, Checks, Marks, Collects}
 
 -- each answer is read back from its struct
 dump-given : (d : Description) (base : Option ℕ) → d .base ≡ base → dumpRead (dumpAnswer (gives d)) ≡ gives d
@@ -65,3 +71,53 @@ chained = laws.chained promised
 -- the calls that edit a message are the exported ones
 pub audited : AuditedDump Restores (family .calls)
 audited = splices.audited promised (λ words len patches fits. demand.audited .demand3 fits)
+
+-- ---- marking and collecting
+
+changed : reclaims.Promised Checks Restores Describes Marks Collects
+changed =
+    record {
+      checks = λ {store = store} c.
+          sym (c .answer-is) ∙ ap numberRead (rw (c .given) at (c .promise)) ∙ number-read (check store) (from-named (check-named store));
+      dumps = promised;
+      marks = λ {store = store} {n} m.
+          let g = m .given in
+          read-leaving doneAnswer doneRead (mark store n) (rw (g .0, g .1, m .left) at (m .promise)) (m .answer-is)
+          (done-read _ (from-named (mark-named store n)));
+      collects = λ {store = store} c.
+          read-leaving numberAnswer numberRead (collect store) (rw (c .given, c .left) at (c .promise)) (c .answer-is)
+          (number-read _ (from-named (collect-named store)));
+      can-check = λ {store = store} {answer} e. record {
+        lifetimes = ([], tt);
+        arguments = (lent store, tt);
+        said = numberAnswer answer;
+        exit = (lent store, tt);
+        promise = sym (ap numberAnswer e);
+        given = refl;
+        answer-is = number-read answer (from-named (rw e at (check-named store)));
+        left = tt;
+      };
+      can-mark = λ {store = store} {n} {verdict} {left} e. record {
+        lifetimes = ([], tt);
+        arguments = (lent store, (n, tt));
+        said = doneAnswer verdict;
+        exit = (lent left, (n, tt));
+        promise = sym (ap (leaving doneAnswer) e);
+        given = (refl, refl);
+        answer-is = done-read verdict (from-named (rw (ap (λ (o : Verdict × List ℕ). o .0) e) at (mark-named store n)));
+        left = refl;
+      };
+      can-collect = λ {store = store} {answer} {left} e. record {
+        lifetimes = ([], tt);
+        arguments = (lent store, tt);
+        said = numberAnswer answer;
+        exit = (lent left, tt);
+        promise = sym (ap (leaving numberAnswer) e);
+        given = refl;
+        answer-is = number-read answer (from-named (rw (ap (λ (o : Answer ℕ × List ℕ). o .0) e) at (collect-named store)));
+        left = refl;
+      };
+    }
+
+pub reclaimed : Reclaimed Checks Restores Describes Marks Collects
+reclaimed = reclaims.reclaimed changed

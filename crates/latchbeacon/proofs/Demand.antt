@@ -6,7 +6,7 @@ use native.Mathlib.Omega.{arith}
 use lib.Dec.{lit<}
 use denote.Ref.{RefT}
 use borrow.Author.Tests.{ne-eqb}
-use Rattle.refusal.specs.Answer.{Answer, gives, refused}
+use Rattle.refusal.specs.Answer.{Answer, gives, refused, Verdict}
 use Rattle.ump.specs.Packet.{sysex8}
 use Rattle.ump.specs.Splice.{Spliced, splice, repack}
 use Rattle.ump.specs.Edits.{Range, moveEdit, spliceAll}
@@ -20,8 +20,8 @@ use Rattle.ump.proofs.NotEmpty.{fits8}
 use Rattle.ump.proofs.Orders as orders
 use Rattle.edit.proofs.Audit as audit
 use Rattle.edit.proofs.Audit.{Promised}
-use Rattle.latchbeacon.specs.Answers.{leaving, numberAnswer, changeAnswer, rangeAnswer, originAnswer}
-use Rattle.latchbeacon.proofs.Worker.{readAs, numberRead, changeRead, rangeRead, originRead, family}
+use Rattle.answers.specs.Answers.{leaving, numberAnswer, doneAnswer, changeAnswer, rangeAnswer, originAnswer}
+use Rattle.latchbeacon.proofs.Worker.{readAs, numberRead, doneRead, changeRead, rangeRead, originRead, family}
 
 -- ---- reading a struct gives back the answer, as no refusal has the number 0
 
@@ -31,6 +31,10 @@ read-refused number place value h = rw (ne-eqb number 0 (λ q. omega arith))
 pub number-read : (answer : Answer ℕ) → Numbered answer → numberRead (numberAnswer answer) ≡ answer
 number-read (gives value) h = refl
 number-read (refused number place) (numbered h) = read-refused number place _ h
+
+pub done-read : (verdict : Verdict) → Numbered verdict → doneRead (doneAnswer verdict) ≡ verdict
+done-read (gives u) h = refl
+done-read (refused number place) (numbered h) = read-refused number place _ h
 
 change-read : (answer : Answer Spliced) → Numbered answer → changeRead (changeAnswer answer) ≡ answer
 change-read (gives change) h = refl

@@ -2,11 +2,7 @@
 use mathlib.Core.Path.{_≡_, sym, ap, _∙_}
 use mathlib.Core.List.{List}
 use Prim.Native.Nat.{ℕ}
-use Rattle.latchbeacon.specs.Answers.{leaving}
-
--- a struct made of a case of an answer is the struct of the answer
-pub of-case : {A B : Type 0} (struct : A → B) {x y : A} {r : B} → x ≡ y → r ≡ struct y → r ≡ struct x
-of-case struct h e = e ∙ sym (ap struct h)
+use Rattle.answers.specs.Answers.{leaving}
 
 -- the struct of what the wrapped call answers is the struct of what it promises
 pub told : {A B : Type 0} (struct : A → B) {meaning outcome : A} {r : B} → r ≡ struct meaning → meaning ≡ outcome → r ≡ struct outcome

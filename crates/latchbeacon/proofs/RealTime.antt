@@ -7,7 +7,7 @@ use Rattle.ump.specs.RealTime.{PassesOver}
 use Rattle.ump.proofs.Numbered.{stream-numbered}
 use Rattle.ump.proofs.RealTime as laws
 use Rattle.ump.proofs.RealTime.{Promised}
-use Rattle.latchbeacon.specs.Answers.{leaving, numberAnswer}
+use Rattle.answers.specs.Answers.{leaving, numberAnswer}
 use Rattle.latchbeacon.proofs.Worker.{numberRead}
 use Rattle.latchbeacon.proofs.Demand.{number-read, read-leaving, lent}
 use Rattle.latchbeacon.proofs.Writer.{Writes}

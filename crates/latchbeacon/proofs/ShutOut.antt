@@ -22,16 +22,18 @@ use Rattle.edit.specs.Growth.{growthOf}
 use Rattle.store.specs.Store.{isData, bodySize, recordsAfter, followsBy, allowedBy, wellFormed, dataIn, patchesIn, dumpOf, dumpsIn, twice, sound, held}
 use Rattle.store.specs.Samples as store
 use Rattle.chain.specs.Restore.{roomed, outside, rebuilt, restored, sizes, described, describe}
-use Rattle.latchbeacon.specs.declared.answers.NumberAnswer.{NumberAnswer}
-use Rattle.latchbeacon.specs.declared.answers.PacketAnswer.{PacketAnswer}
-use Rattle.latchbeacon.specs.declared.answers.MessageAnswer.{MessageAnswer}
-use Rattle.latchbeacon.specs.declared.answers.ChangeAnswer.{ChangeAnswer}
-use Rattle.latchbeacon.specs.declared.answers.GrowthAnswer.{GrowthAnswer}
-use Rattle.latchbeacon.specs.declared.answers.RangeAnswer.{RangeAnswer}
-use Rattle.latchbeacon.specs.declared.answers.OriginAnswer.{OriginAnswer}
-use Rattle.latchbeacon.specs.declared.answers.CursorAnswer.{CursorAnswer}
-use Rattle.latchbeacon.specs.declared.answers.ReadAnswer.{ReadAnswer}
-use Rattle.latchbeacon.specs.declared.answers.DumpAnswer.{DumpAnswer}
+use Rattle.reclaim.specs.Reclaim.{bytesIn, markedKind, markedIn, mark, wantedIn, walked, reaches, keptIn, collected, collect}
+use Rattle.reclaim.specs.Samples.{gone, oneGone}
+use Rattle.answers.specs.declared.NumberAnswer.{NumberAnswer}
+use Rattle.answers.specs.declared.PacketAnswer.{PacketAnswer}
+use Rattle.answers.specs.declared.MessageAnswer.{MessageAnswer}
+use Rattle.answers.specs.declared.ChangeAnswer.{ChangeAnswer}
+use Rattle.answers.specs.declared.GrowthAnswer.{GrowthAnswer}
+use Rattle.answers.specs.declared.RangeAnswer.{RangeAnswer}
+use Rattle.answers.specs.declared.OriginAnswer.{OriginAnswer}
+use Rattle.answers.specs.declared.CursorAnswer.{CursorAnswer}
+use Rattle.answers.specs.declared.ReadAnswer.{ReadAnswer}
+use Rattle.answers.specs.declared.DumpAnswer.{DumpAnswer}
 use Rattle.latchbeacon.proofs.fields.latchbeacon_bit.Reads as bit
 use Rattle.latchbeacon.proofs.packets.latchbeacon_sysex8_packet.Kinds as packet-kinds
 use Rattle.latchbeacon.proofs.packets.latchbeacon_sysex8_packet.Reads as packet
@@ -49,6 +51,10 @@ use Rattle.latchbeacon.proofs.cursors.latchbeacon_sysex8_next.Kinds as 
 use Rattle.latchbeacon.proofs.cursors.latchbeacon_sysex8_next.Reads as next
 use Rattle.latchbeacon.proofs.chains.latchbeacon_store_describe.Kinds as describe-kinds
 use Rattle.latchbeacon.proofs.chains.latchbeacon_store_describe.Reads as describe-promise
+use Rattle.latchbeacon.proofs.chains.latchbeacon_store_mark.Kinds as mark-kinds
+use Rattle.latchbeacon.proofs.chains.latchbeacon_store_mark.Reads as mark-promise
+use Rattle.latchbeacon.proofs.chains.latchbeacon_store_collect.Kinds as collect-kinds
+use Rattle.latchbeacon.proofs.chains.latchbeacon_store_collect.Reads as collect-promise
 
 abbrev signed : ℤ → ℕ
 signed (pos n) = 2 * n
@@ -198,3 +204,17 @@ dump-base : ShutOut 1 describe-kinds.ps describe-kinds.r describe-promise.Post
     × (x ≡ record { refusal = 25; place = 0; delta = false; group = 0; id = 0; base = 1; size = 0; words = 0; steps = 0 }))
 unfolding isData bodySize recordsAfter followsBy allowedBy wellFormed dataIn patchesIn dumpOf dumpsIn twice sound held roomed outside rebuilt restored sizes described describe replaced joined packetsFor
 dump-base κs a x s w p = differ (λ (r : DumpAnswer). r .base) tt (rw (w .0, w .1, w .2) at p)
+
+-- ---- a store: dump 1; an unwanted delta 2 before it
+
+-- marking answers no value
+mark-value : ShutOut 1 mark-kinds.ps mark-kinds.r mark-promise.Post
+    (λ κs a x s. (a .0 .now ≡ store.one) × (a .1 .0 ≡ 1) × (x ≡ record { refusal = 0; place = 0; value = 1 }) × (s .0 .now ≡ oneGone))
+unfolding isData bodySize recordsAfter followsBy allowedBy wellFormed dataIn patchesIn dumpOf dumpsIn twice sound held bytesIn markedKind markedIn mark
+mark-value κs a x s w p = differ (λ (o : NumberAnswer × List ℕ). o .0 .value) tt (rw (w .0, w .1, w .2, w .3) at p)
+
+-- collecting answers the new length and not that of the bytes lent
+collect-length : ShutOut 1 collect-kinds.ps collect-kinds.r collect-promise.Post
+    (λ κs a x s. (a .0 .now ≡ gone 2 1 ++ store.one) × (x ≡ record { refusal = 0; place = 0; value = 14 }) × (s .0 .now ≡ store.one ++ replicate 5 0))
+unfolding isData bodySize recordsAfter followsBy allowedBy wellFormed dataIn patchesIn dumpOf dumpsIn twice sound held bytesIn wantedIn walked reaches keptIn collected collect
+collect-length κs a x s w p = differ (λ (o : NumberAnswer × List ℕ). o .0 .value) tt (rw (w .0, w .1, w .2) at p)

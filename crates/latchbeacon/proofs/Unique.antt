@@ -83,6 +83,10 @@ use Rattle.latchbeacon.proofs.chains.latchbeacon_store_describe.Kinds a
 use Rattle.latchbeacon.proofs.chains.latchbeacon_store_describe.Reads as store-describe
 use Rattle.latchbeacon.proofs.chains.latchbeacon_store_restore.Kinds as store-restore-kinds
 use Rattle.latchbeacon.proofs.chains.latchbeacon_store_restore.Reads as store-restore
+use Rattle.latchbeacon.proofs.chains.latchbeacon_store_mark.Kinds as store-mark-kinds
+use Rattle.latchbeacon.proofs.chains.latchbeacon_store_mark.Reads as store-mark
+use Rattle.latchbeacon.proofs.chains.latchbeacon_store_collect.Kinds as store-collect-kinds
+use Rattle.latchbeacon.proofs.chains.latchbeacon_store_collect.Reads as store-collect
 
 bit-unique : FixesResult 0 bit-kinds.ps bit-kinds.r bit.Post
 bit-unique κs a x y s t p q = p ∙ sym q
@@ -206,3 +210,9 @@ store-describe-unique κs a x y s t p q = p ∙ sym q
 
 store-restore-unique : FixesOutcome 2 store-restore-kinds.ps store-restore-kinds.r store-restore.Post (λ κs s. s .1 .1 .0 .now)
 store-restore-unique κs a x y s t p q = both-fixed (λ r. r) (λ r r′ e. e) p q
+
+store-mark-unique : FixesOutcome 1 store-mark-kinds.ps store-mark-kinds.r store-mark.Post (λ κs s. s .0 .now)
+store-mark-unique κs a x y s t p q = both-fixed (λ r. r) (λ r r′ e. e) p q
+
+store-collect-unique : FixesOutcome 1 store-collect-kinds.ps store-collect-kinds.r store-collect.Post (λ κs s. s .0 .now)
+store-collect-unique κs a x y s t p q = both-fixed (λ r. r) (λ r r′ e. e) p q

@@ -5,7 +5,7 @@ use mathlib.Core.Bool.{Bool, cond}
 use mathlib.Core.List.{List}
 use Prim.Native.Nat.{ℕ}
 use lib.Dec.{eqb}
-use Rattle.refusal.specs.Answer.{Answer, gives, refused}
+use Rattle.refusal.specs.Answer.{Answer, gives, refused, Verdict}
 use Rattle.refusal.proofs.Called.{Called}
 use Rattle.ump.specs.Splice.{Spliced}
 use Rattle.ump.specs.Edits.{Edit, Range}
@@ -13,10 +13,10 @@ use Rattle.ump.specs.Origin.{Origin, headerOctet, carried, dumpByte, editByte, 
 use Rattle.ump.specs.Worker.{mapAnswer, over}
 use Rattle.ump.specs.Demand.{Family}
 use Rattle.edit.proofs.Worker.{spliceGiven, repackGiven, listGiven, askGiven}
-use Rattle.latchbeacon.specs.declared.answers.NumberAnswer.{NumberAnswer}
-use Rattle.latchbeacon.specs.declared.answers.ChangeAnswer.{ChangeAnswer}
-use Rattle.latchbeacon.specs.declared.answers.RangeAnswer.{RangeAnswer}
-use Rattle.latchbeacon.specs.declared.answers.OriginAnswer.{OriginAnswer}
+use Rattle.answers.specs.declared.NumberAnswer.{NumberAnswer}
+use Rattle.answers.specs.declared.ChangeAnswer.{ChangeAnswer}
+use Rattle.answers.specs.declared.RangeAnswer.{RangeAnswer}
+use Rattle.answers.specs.declared.OriginAnswer.{OriginAnswer}
 use Rattle.latchbeacon.proofs.splices.latchbeacon_sysex8_repack.Kinds as repack-kinds
 use Rattle.latchbeacon.proofs.splices.latchbeacon_sysex8_repack.Reads as exported-repack
 use Rattle.latchbeacon.proofs.splices.latchbeacon_sysex8_splice.Kinds as splice-kinds
@@ -36,6 +36,10 @@ readAs number place value = cond (eqb number 0) (gives value) (refused number pl
 
 abbrev pub numberRead : NumberAnswer → Answer ℕ
 numberRead said = readAs (said .refusal) (said .place) (said .value)
+
+-- of a call that only stores
+abbrev pub doneRead : NumberAnswer → Verdict
+doneRead said = readAs (said .refusal) (said .place) tt
 
 abbrev pub changeRead : ChangeAnswer → Answer Spliced
 changeRead said = readAs (said .refusal) (said .place) (record { length = said .length; growth = said .growth })

@@ -1,17 +1,18 @@
-// The exported calls on a store of dumps: its check, and one dump described or restored.
+// The exported calls on a store of dumps: its check, one dump described, restored or marked unwanted, and collecting.
 ghost use mathlib.Core.Path.{_≡_};
 ghost use Rattle.store.specs.Store.{check};
 ghost use Rattle.chain.specs.Restore.{restore, describe};
-ghost use Rattle.latchbeacon.specs.Answers.{numberAnswer, dumpAnswer, leaving};
-use crate::answers::DumpAnswer;
-use crate::answers::NumberAnswer;
+ghost use Rattle.reclaim.specs.Reclaim.{mark, collect};
+ghost use Rattle.answers.specs.Answers.{numberAnswer, doneAnswer, dumpAnswer, leaving};
+use answers::DumpAnswer;
+use answers::NumberAnswer;
 
 // Checks the store and answers how many dumps it has; Format, Twice, Full, each over the whole store before the next.
 #[no_mangle]
 pub extern "C" fn latchbeacon_store_check(store: &[u8]) -> NumberAnswer
     ensures { λ r. ⌜ r ≡ numberAnswer (check (now (store .entry))) ⌝ }
 {
-    crate::answers::checked(store::check(store))
+    answers::checked(store::check(store))
 }
 
 // Describes the dump of this number: whole or a delta of a base, its group, stream id and payload size, the words that restoring it needs,
@@ -20,7 +21,7 @@ pub extern "C" fn latchbeacon_store_check(store: &[u8]) -> NumberAnswer
 pub extern "C" fn latchbeacon_store_describe(store: &[u8], number: usize) -> DumpAnswer
     ensures { λ r. ⌜ r ≡ dumpAnswer (describe (now (store .entry)) number) ⌝ }
 {
-    crate::answers::described(chain::describe(store, number))
+    answers::described(chain::describe(store, number))
 }
 
 // Restores the dump of this number, its base first and then its edits, in fewest-packet form, zeroes all lent words past it, and answers
@@ -33,5 +34,22 @@ pub extern "C" fn latchbeacon_store_restore(
 ) -> NumberAnswer
     ensures { λ r. ⌜ (r, now (words .exit)) ≡ leaving numberAnswer (restore (now (store .entry)) number (now (words .entry))) ⌝ }
 {
-    crate::answers::restored(restore::restore(store, number, words))
+    answers::restored(restore::restore(store, number, words))
+}
+
+// Marks the dump of this number unwanted; Format, Twice, Full, Missing.
+#[no_mangle]
+pub extern "C" fn latchbeacon_store_mark(store: &mut [u8], number: usize) -> NumberAnswer
+    ensures { λ r. ⌜ (r, now (store .exit)) ≡ leaving doneAnswer (mark (now (store .entry)) number) ⌝ }
+{
+    answers::marked(reclaim::mark(store, number))
+}
+
+// Collects: keeps each wanted dump and each dump that a wanted one rests on, moves their records down in their old order, zeroes the rest
+// of the bytes lent, and answers the new length; Format, Twice, Full.
+#[no_mangle]
+pub extern "C" fn latchbeacon_store_collect(store: &mut [u8]) -> NumberAnswer
+    ensures { λ r. ⌜ (r, now (store .exit)) ≡ leaving numberAnswer (collect (now (store .entry))) ⌝ }
+{
+    answers::collected(reclaim::collect(store))
 }

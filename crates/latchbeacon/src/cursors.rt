@@ -2,9 +2,9 @@
 ghost use mathlib.Core.Path.{_≡_};
 ghost use Rattle.ump.specs.Packet.{sysex8};
 ghost use Rattle.ump.specs.Reader.{reader, nth, bytesRemaining};
-ghost use Rattle.latchbeacon.specs.Answers.{cursorAnswer, readAnswer};
-use crate::answers::CursorAnswer;
-use crate::answers::ReadAnswer;
+ghost use Rattle.answers.specs.Answers.{cursorAnswer, readAnswer};
+use answers::CursorAnswer;
+use answers::ReadAnswer;
 use reader::Cursor;
 
 // The cursor at the start of the message in the first `length` words; the check's refusals.
@@ -12,7 +12,7 @@ use reader::Cursor;
 pub extern "C" fn latchbeacon_sysex8_open(words: &[u32], length: usize) -> CursorAnswer
     ensures { λ r. ⌜ r ≡ cursorAnswer (reader sysex8 (now (words .entry)) length) ⌝ }
 {
-    crate::answers::cursor(reader::open(words, length))
+    answers::cursor(reader::open(words, length))
 }
 
 // The next byte, or the end.
@@ -30,7 +30,7 @@ pub extern "C" fn latchbeacon_sysex8_next(
         byte,
         remaining,
     };
-    crate::answers::read(reader::next(words, cursor))
+    answers::read(reader::next(words, cursor))
 }
 
 // Skip-then-read.
@@ -49,7 +49,7 @@ pub extern "C" fn latchbeacon_sysex8_nth(
         byte,
         remaining,
     };
-    crate::answers::read(reader::nth(words, cursor, skip))
+    answers::read(reader::nth(words, cursor, skip))
 }
 
 // Bytes remaining: the smaller of the cursor's count and the bytes that stand there.

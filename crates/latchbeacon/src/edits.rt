@@ -2,9 +2,9 @@
 ghost use mathlib.Core.Path.{_≡_};
 ghost use Rattle.ump.specs.Edits.{moveEdit};
 ghost use Rattle.edit.specs.Growth.{growthOf};
-ghost use Rattle.latchbeacon.specs.Answers.{growthAnswer, rangeAnswer};
-use crate::answers::GrowthAnswer;
-use crate::answers::RangeAnswer;
+ghost use Rattle.answers.specs.Answers.{growthAnswer, rangeAnswer};
+use answers::GrowthAnswer;
+use answers::RangeAnswer;
 use edit::Edit;
 
 // The growth of an edit, replacement length minus range length; Range.
@@ -12,7 +12,7 @@ use edit::Edit;
 pub extern "C" fn latchbeacon_growth(from: usize, to: usize, length: usize) -> GrowthAnswer
     ensures { λ r. ⌜ r ≡ growthAnswer (growthOf (record { from = from; to = to; length = length })) ⌝ }
 {
-    crate::answers::growth(edit::growth(Edit { from, to, length }))
+    answers::growth(edit::growth(Edit { from, to, length }))
 }
 
 // The pending edit's new range, both as of the message just before the done one was spliced; Range, then Overlap.
@@ -38,5 +38,5 @@ pub extern "C" fn latchbeacon_move_edit(
         to: pending_to,
         length: pending_length,
     };
-    crate::answers::range(edit::move_edit(done, pending, done_first))
+    answers::range(edit::move_edit(done, pending, done_first))
 }

@@ -3,16 +3,16 @@ ghost use mathlib.Core.Path.{_≡_};
 ghost use Rattle.ump.specs.Packet.{sysex8, sysex7};
 ghost use Rattle.ump.specs.Check.{checked};
 ghost use Rattle.ump.specs.Setters.{getByte, copyPayload, setGroup, setId, setByte};
-ghost use Rattle.latchbeacon.specs.Answers.{numberAnswer, doneAnswer, messageAnswer, leaving};
-use crate::answers::MessageAnswer;
-use crate::answers::NumberAnswer;
+ghost use Rattle.answers.specs.Answers.{numberAnswer, doneAnswer, messageAnswer, leaving};
+use answers::MessageAnswer;
+use answers::NumberAnswer;
 
 // Checks the SysEx8 message in the first `length` of the words lent; refusals 1 to 12.
 #[no_mangle]
 pub extern "C" fn latchbeacon_sysex8_check(words: &[u32], length: usize) -> MessageAnswer
     ensures { λ r. ⌜ r ≡ messageAnswer (checked sysex8 (now (words .entry)) length) ⌝ }
 {
-    crate::answers::message8(message::sysex8::check(words, length))
+    answers::message8(message::sysex8::check(words, length))
 }
 
 // Checks the SysEx7 message in the first `length` of the words lent; refusals 1 to 11.
@@ -20,7 +20,7 @@ pub extern "C" fn latchbeacon_sysex8_check(words: &[u32], length: usize) -> Mess
 pub extern "C" fn latchbeacon_sysex7_check(words: &[u32], length: usize) -> MessageAnswer
     ensures { λ r. ⌜ r ≡ messageAnswer (checked sysex7 (now (words .entry)) length) ⌝ }
 {
-    crate::answers::message7(message::sysex7::check(words, length))
+    answers::message7(message::sysex7::check(words, length))
 }
 
 // Payload byte `index` of the message; the check's refusals, then Range.
@@ -32,7 +32,7 @@ pub extern "C" fn latchbeacon_sysex8_byte(
 ) -> NumberAnswer
     ensures { λ r. ⌜ r ≡ numberAnswer (getByte sysex8 (now (words .entry)) length index) ⌝ }
 {
-    crate::answers::byte(message::sysex8::byte(words, length, index))
+    answers::byte(message::sysex8::byte(words, length, index))
 }
 
 // Copies the payload to the bytes lent and answers its size; the check's refusals, then Room.
@@ -44,7 +44,7 @@ pub extern "C" fn latchbeacon_sysex8_payload(
 ) -> NumberAnswer
     ensures { λ r. ⌜ (r, now (bytes .exit)) ≡ leaving numberAnswer (copyPayload sysex8 (now (words .entry)) length (now (bytes .entry))) ⌝ }
 {
-    crate::answers::copied(message::sysex8::payload(words, length, bytes))
+    answers::copied(message::sysex8::payload(words, length, bytes))
 }
 
 // Sets the group of the message; the check's refusals, then Field.
@@ -56,7 +56,7 @@ pub extern "C" fn latchbeacon_sysex8_set_group(
 ) -> NumberAnswer
     ensures { λ r. ⌜ (r, now (words .exit)) ≡ leaving doneAnswer (setGroup sysex8 (now (words .entry)) length group) ⌝ }
 {
-    crate::answers::stored(message::sysex8::set_group(words, length, group))
+    answers::stored(message::sysex8::set_group(words, length, group))
 }
 
 // Sets the stream id of the message; the check's refusals.
@@ -68,7 +68,7 @@ pub extern "C" fn latchbeacon_sysex8_set_stream_id(
 ) -> NumberAnswer
     ensures { λ r. ⌜ (r, now (words .exit)) ≡ leaving doneAnswer (setId (now (words .entry)) length id) ⌝ }
 {
-    crate::answers::stored(message::sysex8::set_stream_id(words, length, id))
+    answers::stored(message::sysex8::set_stream_id(words, length, id))
 }
 
 // Sets payload byte `index` of the message; the check's refusals, then Range.
@@ -81,5 +81,5 @@ pub extern "C" fn latchbeacon_sysex8_set_byte(
 ) -> NumberAnswer
     ensures { λ r. ⌜ (r, now (words .exit)) ≡ leaving doneAnswer (setByte sysex8 (now (words .entry)) length index value) ⌝ }
 {
-    crate::answers::stored(message::sysex8::set_byte(words, length, index, value))
+    answers::stored(message::sysex8::set_byte(words, length, index, value))
 }

@@ -5,10 +5,10 @@ ghost use Rattle.ump.specs.Packing.{wordsFor};
 ghost use Rattle.ump.specs.Splice.{repack, splice, setPayload};
 ghost use Rattle.ump.specs.Edits.{spliceAll};
 ghost use Rattle.ump.specs.Origin.{origin};
-ghost use Rattle.latchbeacon.specs.Answers.{numberAnswer, changeAnswer, originAnswer, leaving};
-use crate::answers::ChangeAnswer;
-use crate::answers::NumberAnswer;
-use crate::answers::OriginAnswer;
+ghost use Rattle.answers.specs.Answers.{numberAnswer, changeAnswer, originAnswer, leaving};
+use answers::ChangeAnswer;
+use answers::NumberAnswer;
+use answers::OriginAnswer;
 
 // The words that the fewest-packet form of a payload of `size` bytes takes.
 #[no_mangle]
@@ -23,7 +23,7 @@ pub extern "C" fn latchbeacon_sysex8_words_needed(size: usize) -> usize
 pub extern "C" fn latchbeacon_sysex8_repack(words: &mut [u32], length: usize) -> NumberAnswer
     ensures { λ r. ⌜ (r, now (words .exit)) ≡ leaving numberAnswer (repack sysex8 (now (words .entry)) length) ⌝ }
 {
-    crate::answers::repacked(splice::sysex8::repack(words, length))
+    answers::repacked(splice::sysex8::repack(words, length))
 }
 
 // Replaces the payload bytes `from..to` by the bytes lent; the check's refusals, then Range, Spread, Room.
@@ -37,7 +37,7 @@ pub extern "C" fn latchbeacon_sysex8_splice(
 ) -> ChangeAnswer
     ensures { λ r. ⌜ (r, now (words .exit)) ≡ leaving changeAnswer (splice sysex8 (now (words .entry)) length from to (now (replacement .entry))) ⌝ }
 {
-    crate::answers::change(splice::sysex8::splice(words, length, from, to, replacement))
+    answers::change(splice::sysex8::splice(words, length, from, to, replacement))
 }
 
 // Sets the payload, a splice of the whole; the check's refusals, then Spread, Room.
@@ -49,7 +49,7 @@ pub extern "C" fn latchbeacon_sysex8_set_payload(
 ) -> ChangeAnswer
     ensures { λ r. ⌜ (r, now (words .exit)) ≡ leaving changeAnswer (setPayload sysex8 (now (words .entry)) length (now (bytes .entry))) ⌝ }
 {
-    crate::answers::change(splice::sysex8::set_payload(words, length, bytes))
+    answers::change(splice::sysex8::set_payload(words, length, bytes))
 }
 
 // Replaces all ranges of a list of edits at once: three numbers for each, from, to and replacement length, and all replacement bytes
@@ -63,7 +63,7 @@ pub extern "C" fn latchbeacon_sysex8_splice_all(
 ) -> ChangeAnswer
     ensures { λ r. ⌜ (r, now (words .exit)) ≡ leaving changeAnswer (spliceAll sysex8 (now (words .entry)) length (now (numbers .entry)) (now (bytes .entry))) ⌝ }
 {
-    crate::answers::change(edit::splice_all(words, length, numbers, bytes))
+    answers::change(edit::splice_all(words, length, numbers, bytes))
 }
 
 // Where octet `octet` of the words lent comes from, if all edits of a list are done so; refused as that is, then Range for an octet
@@ -78,5 +78,5 @@ pub extern "C" fn latchbeacon_sysex8_origin(
 ) -> OriginAnswer
     ensures { λ r. ⌜ r ≡ originAnswer (origin sysex8 (now (words .entry)) length (now (numbers .entry)) (now (bytes .entry)) octet) ⌝ }
 {
-    crate::answers::origin(edit::origin(words, length, numbers, bytes, octet))
+    answers::origin(edit::origin(words, length, numbers, bytes, octet))
 }

@@ -1,8 +1,8 @@
 // The exported call that writes a byte stream.
 ghost use mathlib.Core.Path.{_≡_};
 ghost use Rattle.ump.specs.Stream.{toSysex7};
-ghost use Rattle.latchbeacon.specs.Answers.{numberAnswer, leaving};
-use crate::answers::NumberAnswer;
+ghost use Rattle.answers.specs.Answers.{numberAnswer, leaving};
+use answers::NumberAnswer;
 
 // Writes F0, data, F7 as SysEx7 packets, real-time bytes between F0 and F7 passed over, and answers their words; Long, Field, Frame, Byte,
 // Room.
@@ -14,5 +14,5 @@ pub extern "C" fn latchbeacon_bytes_to_sysex7(
 ) -> NumberAnswer
     ensures { λ r. ⌜ (r, now (words .exit)) ≡ leaving numberAnswer (toSysex7 (now (bytes .entry)) group (now (words .entry))) ⌝ }
 {
-    crate::answers::written(stream::to_sysex7(bytes, group, words))
+    answers::written(stream::to_sysex7(bytes, group, words))
 }

@@ -1,6 +1,6 @@
 -- `latchbeacon::chains::latchbeacon_store_check`: what the wrapped call promises. Assumes nothing.
 use borrow.Author.Needs.{needs}
-use Rattle.latchbeacon.specs.Answers.{numberAnswer}
+use Rattle.answers.specs.Answers.{numberAnswer}
 use Rattle.latchbeacon.proofs.Laws.{told}
 use Rattle.latchbeacon.proofs.chains.latchbeacon_store_check.Statement.{statement}
 use Rattle.latchbeacon.proofs.chains.latchbeacon_store_check.Tie as tie

@@ -1,6 +1,6 @@
 -- `latchbeacon::chains::latchbeacon_store_describe`: what the wrapped call promises. Assumes nothing.
 use borrow.Author.Needs.{needs}
-use Rattle.latchbeacon.specs.Answers.{dumpAnswer}
+use Rattle.answers.specs.Answers.{dumpAnswer}
 use Rattle.latchbeacon.proofs.Laws.{told}
 use Rattle.latchbeacon.proofs.chains.latchbeacon_store_describe.Statement.{statement}
 use Rattle.latchbeacon.proofs.chains.latchbeacon_store_describe.Tie as tie

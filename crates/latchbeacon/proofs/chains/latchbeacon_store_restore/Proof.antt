@@ -1,6 +1,6 @@
 -- `latchbeacon::chains::latchbeacon_store_restore`: what the wrapped call promises. Assumes nothing.
 use borrow.Author.Needs.{needs}
-use Rattle.latchbeacon.specs.Answers.{numberAnswer}
+use Rattle.answers.specs.Answers.{numberAnswer}
 use Rattle.latchbeacon.proofs.Laws.{told-leaving}
 use Rattle.latchbeacon.proofs.chains.latchbeacon_store_restore.Statement.{statement}
 use Rattle.latchbeacon.proofs.chains.latchbeacon_store_restore.Tie as tie

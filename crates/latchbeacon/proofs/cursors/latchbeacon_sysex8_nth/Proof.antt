@@ -1,6 +1,6 @@
 -- `latchbeacon::cursors::latchbeacon_sysex8_nth`: what the wrapped call promises. Assumes nothing.
 use borrow.Author.Needs.{needs}
-use Rattle.latchbeacon.specs.Answers.{readAnswer}
+use Rattle.answers.specs.Answers.{readAnswer}
 use Rattle.latchbeacon.proofs.Laws.{told}
 use Rattle.latchbeacon.proofs.cursors.latchbeacon_sysex8_nth.Statement.{statement}
 use Rattle.latchbeacon.proofs.cursors.latchbeacon_sysex8_nth.Tie as tie

@@ -1,6 +1,6 @@
 -- `latchbeacon::cursors::latchbeacon_sysex8_open`: what the wrapped call promises. Assumes nothing.
 use borrow.Author.Needs.{needs}
-use Rattle.latchbeacon.specs.Answers.{cursorAnswer}
+use Rattle.answers.specs.Answers.{cursorAnswer}
 use Rattle.latchbeacon.proofs.Laws.{told}
 use Rattle.latchbeacon.proofs.cursors.latchbeacon_sysex8_open.Statement.{statement}
 use Rattle.latchbeacon.proofs.cursors.latchbeacon_sysex8_open.Tie as tie

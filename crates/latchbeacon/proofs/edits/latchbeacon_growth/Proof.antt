@@ -1,6 +1,6 @@
 -- `latchbeacon::edits::latchbeacon_growth`: what the wrapped call promises. Assumes nothing.
 use borrow.Author.Needs.{needs}
-use Rattle.latchbeacon.specs.Answers.{growthAnswer}
+use Rattle.answers.specs.Answers.{growthAnswer}
 use Rattle.latchbeacon.proofs.Laws.{told}
 use Rattle.latchbeacon.proofs.edits.latchbeacon_growth.Statement.{statement}
 use Rattle.latchbeacon.proofs.edits.latchbeacon_growth.Tie as tie

@@ -1,6 +1,6 @@
 -- `latchbeacon::edits::latchbeacon_move_edit`: what the wrapped call promises. Assumes nothing.
 use borrow.Author.Needs.{needs}
-use Rattle.latchbeacon.specs.Answers.{rangeAnswer}
+use Rattle.answers.specs.Answers.{rangeAnswer}
 use Rattle.latchbeacon.proofs.Laws.{told}
 use Rattle.latchbeacon.proofs.edits.latchbeacon_move_edit.Statement.{statement}
 use Rattle.latchbeacon.proofs.edits.latchbeacon_move_edit.Tie as tie

@@ -1,6 +1,6 @@
 -- `latchbeacon::fields::latchbeacon_set_octet`: what the wrapped call promises. Assumes nothing.
 use borrow.Author.Needs.{needs}
-use Rattle.latchbeacon.specs.Answers.{numberAnswer}
+use Rattle.answers.specs.Answers.{numberAnswer}
 use Rattle.latchbeacon.proofs.Laws.{told}
 use Rattle.latchbeacon.proofs.fields.latchbeacon_set_octet.Statement.{statement}
 use Rattle.latchbeacon.proofs.fields.latchbeacon_set_octet.Tie as tie

@@ -1,6 +1,6 @@
 -- `latchbeacon::messages::latchbeacon_sysex8_byte`: what the wrapped call promises. Assumes nothing.
 use borrow.Author.Needs.{needs}
-use Rattle.latchbeacon.specs.Answers.{numberAnswer}
+use Rattle.answers.specs.Answers.{numberAnswer}
 use Rattle.latchbeacon.proofs.Laws.{told}
 use Rattle.latchbeacon.proofs.messages.latchbeacon_sysex8_byte.Statement.{statement}
 use Rattle.latchbeacon.proofs.messages.latchbeacon_sysex8_byte.Tie as tie

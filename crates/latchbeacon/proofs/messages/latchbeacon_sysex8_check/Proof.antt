@@ -1,6 +1,6 @@
 -- `latchbeacon::messages::latchbeacon_sysex8_check`: what the wrapped call promises. Assumes nothing.
 use borrow.Author.Needs.{needs}
-use Rattle.latchbeacon.specs.Answers.{messageAnswer}
+use Rattle.answers.specs.Answers.{messageAnswer}
 use Rattle.latchbeacon.proofs.Laws.{told}
 use Rattle.latchbeacon.proofs.messages.latchbeacon_sysex8_check.Statement.{statement}
 use Rattle.latchbeacon.proofs.messages.latchbeacon_sysex8_check.Tie as tie

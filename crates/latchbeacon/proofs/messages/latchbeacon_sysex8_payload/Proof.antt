@@ -1,6 +1,6 @@
 -- `latchbeacon::messages::latchbeacon_sysex8_payload`: what the wrapped call promises. Assumes nothing.
 use borrow.Author.Needs.{needs}
-use Rattle.latchbeacon.specs.Answers.{numberAnswer}
+use Rattle.answers.specs.Answers.{numberAnswer}
 use Rattle.latchbeacon.proofs.Laws.{told-leaving}
 use Rattle.latchbeacon.proofs.messages.latchbeacon_sysex8_payload.Statement.{statement}
 use Rattle.latchbeacon.proofs.messages.latchbeacon_sysex8_payload.Tie as tie

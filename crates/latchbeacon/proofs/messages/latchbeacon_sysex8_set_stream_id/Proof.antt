@@ -1,6 +1,6 @@
 -- `latchbeacon::messages::latchbeacon_sysex8_set_stream_id`: what the wrapped call promises. Assumes nothing.
 use borrow.Author.Needs.{needs}
-use Rattle.latchbeacon.specs.Answers.{doneAnswer}
+use Rattle.answers.specs.Answers.{doneAnswer}
 use Rattle.latchbeacon.proofs.Laws.{told-leaving}
 use Rattle.latchbeacon.proofs.messages.latchbeacon_sysex8_set_stream_id.Statement.{statement}
 use Rattle.latchbeacon.proofs.messages.latchbeacon_sysex8_set_stream_id.Tie as tie

@@ -1,6 +1,6 @@
 -- `latchbeacon::packets::latchbeacon_sysex7_packet_byte`: what the wrapped call promises. Assumes nothing.
 use borrow.Author.Needs.{needs}
-use Rattle.latchbeacon.specs.Answers.{numberAnswer}
+use Rattle.answers.specs.Answers.{numberAnswer}
 use Rattle.latchbeacon.proofs.Laws.{told}
 use Rattle.latchbeacon.proofs.packets.latchbeacon_sysex7_packet_byte.Statement.{statement}
 use Rattle.latchbeacon.proofs.packets.latchbeacon_sysex7_packet_byte.Tie as tie

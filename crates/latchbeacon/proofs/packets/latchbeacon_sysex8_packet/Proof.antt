@@ -1,6 +1,6 @@
 -- `latchbeacon::packets::latchbeacon_sysex8_packet`: what the wrapped call promises. Assumes nothing.
 use borrow.Author.Needs.{needs}
-use Rattle.latchbeacon.specs.Answers.{packetAnswer}
+use Rattle.answers.specs.Answers.{packetAnswer}
 use Rattle.latchbeacon.proofs.Laws.{told}
 use Rattle.latchbeacon.proofs.packets.latchbeacon_sysex8_packet.Statement.{statement}
 use Rattle.latchbeacon.proofs.packets.latchbeacon_sysex8_packet.Tie as tie

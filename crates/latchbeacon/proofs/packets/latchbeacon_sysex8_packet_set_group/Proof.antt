@@ -1,6 +1,6 @@
 -- `latchbeacon::packets::latchbeacon_sysex8_packet_set_group`: what the wrapped call promises. Assumes nothing.
 use borrow.Author.Needs.{needs}
-use Rattle.latchbeacon.specs.Answers.{doneAnswer}
+use Rattle.answers.specs.Answers.{doneAnswer}
 use Rattle.latchbeacon.proofs.Laws.{told-leaving}
 use Rattle.latchbeacon.proofs.packets.latchbeacon_sysex8_packet_set_group.Statement.{statement}
 use Rattle.latchbeacon.proofs.packets.latchbeacon_sysex8_packet_set_group.Tie as tie

@@ -1,6 +1,6 @@
 -- `latchbeacon::splices::latchbeacon_sysex8_origin`: what the wrapped call promises. Assumes nothing.
 use borrow.Author.Needs.{needs}
-use Rattle.latchbeacon.specs.Answers.{originAnswer}
+use Rattle.answers.specs.Answers.{originAnswer}
 use Rattle.latchbeacon.proofs.Laws.{told}
 use Rattle.latchbeacon.proofs.splices.latchbeacon_sysex8_origin.Statement.{statement}
 use Rattle.latchbeacon.proofs.splices.latchbeacon_sysex8_origin.Tie as tie

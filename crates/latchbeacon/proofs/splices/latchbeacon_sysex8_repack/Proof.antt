@@ -1,6 +1,6 @@
 -- `latchbeacon::splices::latchbeacon_sysex8_repack`: what the wrapped call promises. Assumes nothing.
 use borrow.Author.Needs.{needs}
-use Rattle.latchbeacon.specs.Answers.{numberAnswer}
+use Rattle.answers.specs.Answers.{numberAnswer}
 use Rattle.latchbeacon.proofs.Laws.{told-leaving}
 use Rattle.latchbeacon.proofs.splices.latchbeacon_sysex8_repack.Statement.{statement}
 use Rattle.latchbeacon.proofs.splices.latchbeacon_sysex8_repack.Tie as tie

@@ -1,6 +1,6 @@
 -- `latchbeacon::splices::latchbeacon_sysex8_splice_all`: what the wrapped call promises. Assumes nothing.
 use borrow.Author.Needs.{needs}
-use Rattle.latchbeacon.specs.Answers.{changeAnswer}
+use Rattle.answers.specs.Answers.{changeAnswer}
 use Rattle.latchbeacon.proofs.Laws.{told-leaving}
 use Rattle.latchbeacon.proofs.splices.latchbeacon_sysex8_splice_all.Statement.{statement}
 use Rattle.latchbeacon.proofs.splices.latchbeacon_sysex8_splice_all.Tie as tie

@@ -1,6 +1,6 @@
 -- `latchbeacon::streams::latchbeacon_bytes_to_sysex7`: what the wrapped call promises. Assumes nothing.
 use borrow.Author.Needs.{needs}
-use Rattle.latchbeacon.specs.Answers.{numberAnswer}
+use Rattle.answers.specs.Answers.{numberAnswer}
 use Rattle.latchbeacon.proofs.Laws.{told-leaving}
 use Rattle.latchbeacon.proofs.streams.latchbeacon_bytes_to_sysex7.Statement.{statement}
 use Rattle.latchbeacon.proofs.streams.latchbeacon_bytes_to_sysex7.Tie as tie

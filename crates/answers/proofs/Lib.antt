@@ -1,0 +1,2 @@
+-- The law behind the structs.
+pub mod Laws

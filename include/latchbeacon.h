@@ -81,7 +81,8 @@ enum latchbeacon_origin_kind {
     LATCHBEACON_ORIGIN_UNTOUCHED = 5  /* behind both; it is what it was */
 };
 
-/* A number: a byte, a field, a word with a field set, a size in bytes, a length in words; 0 where a call only stores. */
+/* A number: a byte, a field, a word with a field set, a size in bytes, a length in words, that of a store in bytes; 0 where a call
+ * only stores. */
 typedef struct {
     uint8_t refusal;
     size_t place;
@@ -316,6 +317,7 @@ latchbeacon_number latchbeacon_bytes_to_sysex7(const uint8_t *bytes, size_t byte
  * A store is the `store_size` bytes in use. They are records: a byte of kind (hex), then a body. Numbers have two bytes, highest first.
  *   01        a whole dump. Body: number, group (1 byte, 0 to 15), stream id (1 byte)
  *   02        a delta. Body: number, number of its base
+ *   11, 12    a whole dump, a delta, that is not wanted any more; else it is read as 01, 02
  *   03        an edit of the delta before it. Body: from, to, which count in the base's payload
  *   81 to 8D  1 to 13 bytes of data, of the whole dump or edit before them
  * Edits stand behind their delta, or its edits and their data, in ascending order, each ending no later than the next begins. Data
@@ -340,6 +342,18 @@ latchbeacon_dump latchbeacon_store_describe(const uint8_t *store, size_t store_s
  * dump itself, all its edits done, needs more words than lent). */
 latchbeacon_number latchbeacon_store_restore(const uint8_t *store, size_t store_size, size_t number, uint32_t *words,
                                              size_t words_lent);
+
+/* Marks the dump of this number unwanted: its kind 01 becomes 11 hex, 02 becomes 12, and no other byte is changed. Every number is
+ * still described and restored as before, this one too, and it still counts for 22 and 23. Marking again is accepted and changes
+ * nothing. The value is 0. Refusals, in this order: 21, 22, 23, 24 (a number not held). */
+latchbeacon_number latchbeacon_store_mark(uint8_t *store, size_t store_size, size_t number);
+
+/* Collects: keeps each wanted dump and each dump that a wanted one rests on, also where following its bases ends with 24 or 25. Moves
+ * their records down in their old order, zeroes all other bytes lent, and answers the new length. That is the `store_size` of the
+ * next calls: the zeros behind it are no records, and the next records are written there. Each dump that is kept is described and
+ * restored as before, or gets the same refusal. Each other number is 24, until a new dump has it. Collecting again changes nothing.
+ * Refusals, each over the whole store before the next: 21, 22, 23. */
+latchbeacon_number latchbeacon_store_collect(uint8_t *store, size_t store_size);
 
 #ifdef __cplusplus
 }

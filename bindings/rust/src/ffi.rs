@@ -150,6 +150,8 @@ extern "C" {
     fn latchbeacon_store_describe(store: *const u8, store_size: usize, number: usize) -> Dump;
     fn latchbeacon_store_restore(store: *const u8, store_size: usize, number: usize, words: *mut u32,
                                  words_lent: usize) -> Number;
+    fn latchbeacon_store_mark(store: *mut u8, store_size: usize, number: usize) -> Number;
+    fn latchbeacon_store_collect(store: *mut u8, store_size: usize) -> Number;
 }
 
 // An answer of the library that may be a refusal.
@@ -427,4 +429,16 @@ pub(crate) fn store_restore(store: &[u8], number: usize, words: &mut [u32]) -> R
     let (address, lent) = (words.as_mut_ptr(), words.len());
     // SAFETY: `store` is a slice; `words` is a slice that is lent to this call alone, so they do not overlap.
     value(unsafe { latchbeacon_store_restore(store.as_ptr(), store.len(), number, address, lent) })
+}
+
+// Marks a dump of a store unwanted.
+pub(crate) fn store_mark(store: &mut [u8], number: usize) -> Result<(), Error> {
+    // SAFETY: `store` is a slice that is lent to this call alone.
+    unsafe { latchbeacon_store_mark(store.as_mut_ptr(), store.len(), number) }.accepted().map(drop)
+}
+
+// Collects a store; answers its new length.
+pub(crate) fn store_collect(store: &mut [u8]) -> Result<usize, Error> {
+    // SAFETY: `store` is a slice that is lent to this call alone.
+    value(unsafe { latchbeacon_store_collect(store.as_mut_ptr(), store.len()) })
 }

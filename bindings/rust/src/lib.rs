@@ -27,7 +27,8 @@
 //! # Ok::<(), latchbeacon::Error>(())
 //! ```
 //!
-//! A [`Store`] has many dumps, each whole or a delta of another, and restores one of them to such words.
+//! A [`Store`] has many dumps, each whole or a delta of another, and restores one of them to such words. Dumps that are not wanted any
+//! more are marked and collected.
 //!
 //! # Limits
 //!

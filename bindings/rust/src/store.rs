@@ -12,12 +12,15 @@ use crate::ffi;
 /// |---|---|---|---|
 /// | 01 | a whole dump | number, group (1 byte, 0 to 15), stream id (1 byte) | anything |
 /// | 02 | a delta | number, number of its base | anything |
+/// | 11, 12 | a whole dump, a delta, that is not wanted any more; else it is read as 01, 02 | as of 01, 02 | anything |
 /// | 03 | an edit of a delta | from, to | its delta, or that one's edits and data |
 /// | 81 to 8D | data | 1 to 13 bytes | a whole dump, an edit, other data |
 ///
 /// The payload of a whole dump is its data. That of a delta is its base's payload with the ranges of all its edits replaced at once,
 /// each by its data. The ranges count in the base's payload and stand in ascending order, each ending no later than the next begins.
 /// A base may stand behind its delta. No two dumps have one number, and there are at most 256. A store without bytes is good.
+///
+/// [`mark`](Store::mark) and [`collect`](Store::collect) change the bytes of a store: dumps that are not wanted any more are freed.
 ///
 /// ```
 /// use latchbeacon::{Basis, Message, Refusal, Store};
@@ -179,5 +182,95 @@ impl<'a> Store<'a> {
     /// ```
     pub fn restore(&self, number: usize, words: &mut [u32]) -> Result<usize, Error> {
         ffi::store_restore(self.0, number, words)
+    }
+}
+
+/// Reclaiming a store. These calls change its bytes, so they are lent them as such.
+impl Store<'_> {
+    /// Marks the dump of this number unwanted, in the bytes of a store: its kind 01 becomes 11 hex, 02 becomes 12, and no other byte
+    /// is changed. Every number is still described and restored as before, this one too. Marking again is accepted and changes
+    /// nothing. [`collect`](Store::collect) then frees what can go.
+    ///
+    /// # Errors
+    ///
+    /// Those of [`check`](Store::check), then [`Missing`](crate::Refusal::Missing) if the store does not hold the number. The bytes
+    /// stay.
+    ///
+    /// ```
+    /// use latchbeacon::{Refusal, Store};
+    ///
+    /// let mut bytes = [0x01, 0, 7, 1, 5, 0x81, 0xA0];
+    /// Store::mark(&mut bytes, 7)?;
+    /// assert_eq!(bytes, [0x11, 0, 7, 1, 5, 0x81, 0xA0]);
+    /// assert_eq!(Store::new(&bytes).describe(7)?.size, 1);
+    /// assert_eq!(Store::mark(&mut bytes, 8).unwrap_err().refusal, Refusal::Missing);
+    /// # Ok::<(), latchbeacon::Error>(())
+    /// ```
+    pub fn mark(store: &mut [u8], number: usize) -> Result<(), Error> {
+        ffi::store_mark(store, number)
+    }
+
+    /// Collects the bytes of a store: keeps each wanted dump and each dump that a wanted one rests on, also where that one's bases
+    /// lead into a ring or to a number that is not held. It moves their records down in their old order, zeroes all other bytes, and
+    /// answers how many are in use now. Go on with those alone: zeros are no records.
+    ///
+    /// Each dump that is kept is described and restored as before, or gets the same refusal. Any other number is
+    /// [`Missing`](crate::Refusal::Missing), until a new dump has it. Collecting again changes nothing.
+    ///
+    /// # Errors
+    ///
+    /// Those of [`check`](Store::check). The bytes stay.
+    ///
+    /// ```
+    /// use latchbeacon::{Refusal, Store};
+    ///
+    /// let mut bytes = vec![
+    ///     0x02, 0, 6, 0, 7, // dump 6 is a delta of 7
+    ///     0x01, 0, 7, 1, 5, 0x83, 0xA0, 0xA1, 0xA2, // dump 7 is whole
+    ///     0x02, 0, 8, 0, 7, 0x03, 0, 1, 0, 3, // dump 8 is a delta of 7, without its last two bytes
+    /// ];
+    ///
+    /// // 6 and 7 are not wanted any more. 8 rests on 7, so that only 6 can go.
+    /// Store::mark(&mut bytes, 6)?;
+    /// Store::mark(&mut bytes, 7)?;
+    /// let length = Store::collect(&mut bytes)?;
+    /// assert_eq!((length, &bytes[length..]), (19, &[0; 5][..]));
+    ///
+    /// // The bytes in use are the store now.
+    /// bytes.truncate(length);
+    /// let store = Store::new(&bytes);
+    /// assert_eq!(store.check()?, 2);
+    /// assert_eq!(store.describe(6).unwrap_err().refusal, Refusal::Missing);
+    /// let mut words = [0; 4];
+    /// assert_eq!(store.restore(8, &mut words)?, 4);
+    /// assert_eq!(words, [0x5102_05A0, 0, 0, 0]);
+    ///
+    /// // A number that was freed may be used again: dump 6 is whole now.
+    /// bytes.extend([0x01, 0, 6, 2, 9, 0x81, 0xC0]);
+    /// assert_eq!(Store::new(&bytes).check()?, 3);
+    /// assert_eq!(Store::new(&bytes).restore(6, &mut words)?, 4);
+    /// assert_eq!(words, [0x5202_09C0, 0, 0, 0]);
+    /// # Ok::<(), latchbeacon::Error>(())
+    /// ```
+    ///
+    /// In an array or another fixed room, write the next record at the new length:
+    ///
+    /// ```
+    /// use latchbeacon::Store;
+    ///
+    /// let mut room = [0; 20];
+    /// room[..10].copy_from_slice(&[0x01, 0, 1, 0, 0, 0x01, 0, 2, 0, 0]);
+    /// Store::mark(&mut room[..10], 1)?;
+    /// let mut used = Store::collect(&mut room[..10])?;
+    /// assert_eq!((used, room[..used].to_vec()), (5, vec![0x01, 0, 2, 0, 0]));
+    ///
+    /// let next = [0x02, 0, 1, 0, 2];
+    /// room[used..used + next.len()].copy_from_slice(&next);
+    /// used += next.len();
+    /// assert_eq!(Store::new(&room[..used]).check()?, 2);
+    /// # Ok::<(), latchbeacon::Error>(())
+    /// ```
+    pub fn collect(store: &mut [u8]) -> Result<usize, Error> {
+        ffi::store_collect(store)
     }
 }

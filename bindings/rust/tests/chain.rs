@@ -1,40 +1,15 @@
 //! Stores of dumps: each kind of store, each refusal and their order, through the bindings.
 
 mod common;
+mod stores;
 
 use common::Numbers;
 use latchbeacon::{move_edit, sysex8, Basis, Description, Error, Message, Refusal, Store};
+use stores::{data, delta, pair, record, whole};
 
 const REST: u32 = 0xEEEE_EEEE;
 
 // ---- stores
-
-// A record: a kind and its body.
-fn record(kind: u8, body: &[u8]) -> Vec<u8> {
-    [&[kind], body].concat()
-}
-
-// A record of two numbers.
-fn pair(kind: u8, first: u16, second: u16) -> Vec<u8> {
-    record(kind, &[first.to_be_bytes(), second.to_be_bytes()].concat())
-}
-
-// Data records of 13 bytes, the last shorter.
-fn data(bytes: &[u8]) -> Vec<u8> {
-    bytes.chunks(13).flat_map(|chunk| record(0x80 + chunk.len() as u8, chunk)).collect()
-}
-
-// A whole dump of group 3 and stream id 9.
-fn whole(number: u16, bytes: &[u8]) -> Vec<u8> {
-    let [high, low] = number.to_be_bytes();
-    [record(0x01, &[high, low, 3, 9]), data(bytes)].concat()
-}
-
-// A delta: its number, its base and its edits, each from, to and data.
-fn delta(number: u16, base: u16, edits: &[(u16, u16, &[u8])]) -> Vec<u8> {
-    let edits = edits.iter().flat_map(|(from, to, bytes)| [pair(0x03, *from, *to), data(bytes)].concat());
-    pair(0x02, number, base).into_iter().chain(edits).collect()
-}
 
 // A chain: dump 0 is whole, and each of `deltas` more rests on the one before it, which it prepends its own number to.
 fn chain(deltas: u16) -> Vec<u8> {
@@ -213,7 +188,7 @@ fn a_delta_is_its_edits_spliced() {
 fn format() {
     let good = [whole(1, &[5; 14]), delta(2, 1, &[(1, 4, &[6]), (4, 4, &[])])].concat();
     assert_eq!(Store::new(&good).check(), Ok(2));
-    for kind in (0..=255).filter(|kind| !matches!(kind, 1..=3 | 0x81..=0x8D)) {
+    for kind in (0..=255).filter(|kind| !matches!(kind, 0x01..=0x03 | 0x11 | 0x12 | 0x81..=0x8D)) {
         assert_eq!(refused_by_all(&[&good[..], &record(kind, &[0, 3, 0, 1])].concat()), 21);
     }
     let ends = [5, 19, 21, 26, 31, 33, 38];
@@ -319,7 +294,7 @@ fn the_order_of_the_refusals() {
     let more: Vec<u8> = (1000..1254).flat_map(|number| whole(number, &[])).collect();
     let all = [&base[..], &bad, &ring, &more].concat();
     let twice = [&all[..], &base].concat();
-    let format = [&twice[..], &[0x11]].concat();
+    let format = [&twice[..], &[0x13]].concat();
     assert_eq!(refused(&format, 9, 16_385), 1);
     assert_eq!(refused(&format, 9, 0), 21);
     assert_eq!(refused(&twice, 9, 0), 22);

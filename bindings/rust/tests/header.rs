@@ -278,7 +278,7 @@ fn differences(header: &str, bindings: &str) -> Vec<String> {
 // The declarations are the header's.
 #[test]
 fn declarations_are_those_of_the_header() {
-    assert_eq!(read_bindings(BINDINGS).len(), 51, "41 functions and 10 structs");
+    assert_eq!(read_bindings(BINDINGS).len(), 53, "43 functions and 10 structs");
     let differences = differences(HEADER, BINDINGS);
     assert!(differences.is_empty(), "the bindings differ from include/latchbeacon.h:\n{}", differences.join("\n"));
 }
@@ -346,6 +346,8 @@ fn a_change_of_a_declaration_is_seen() {
         ),
         ("store_size: usize, number: usize) -> Dump;", "number: usize, store_size: usize) -> Dump;"),
         ("number: usize, words: *mut u32", "number: usize, words: *const u32"),
+        ("latchbeacon_store_mark(store: *mut u8", "latchbeacon_store_mark(store: *const u8"),
+        ("    fn latchbeacon_store_collect(store: *mut u8, store_size: usize) -> Number;\n", ""),
         ("    pub(crate) id: u8,\n", ""),
         ("#[repr(C)]\npub(crate) struct Change", "pub(crate) struct Change"),
     ];

@@ -1,7 +1,7 @@
 //! The calls of a store of dumps, which the original does not have.
 use crate::inputs::{self, Store};
 use crate::port;
-use crate::time::best;
+use crate::time::{best, less};
 use std::hint::black_box;
 
 /// The deltas of the long chain, and the edits of each.
@@ -15,6 +15,11 @@ const SMALL: usize = 100;
 /// The long chain, with a whole dump of so many bytes.
 pub fn long(size: usize) -> Store {
     inputs::chain(size, DELTAS, EDITS)
+}
+
+/// The same deltas in a star.
+fn star(size: usize) -> Store {
+    inputs::star(size, DELTAS, EDITS)
 }
 
 /// A whole dump alone.
@@ -64,6 +69,47 @@ fn describe(call: &str, store: &Store) {
     print(call, store, port, store.bytes.len(), 1);
 }
 
+/// Marks the last dump of a store. It is marked already but for the first time, which changes a byte more. The memmove is of the store.
+fn mark(call: &str, store: &Store) {
+    let (mut bytes, last) = (store.bytes.clone(), store.dumps - 1);
+    let port = best(|| port::mark(black_box(&mut bytes), black_box(last)));
+    print(call, store, port, bytes.len(), 1);
+}
+
+/// Collects a store with these dumps unwanted, of which so many are left. Copying it in is timed alone and taken off. The memmove is
+/// of the store.
+fn collect(call: &str, store: &Store, unwanted: impl Fn(usize) -> bool, left: usize) {
+    let mut bytes = store.bytes.clone();
+    (0..store.dumps).filter(|&number| unwanted(number)).for_each(|number| port::mark(&mut bytes, number));
+    let mut room = bytes.clone();
+    let copy = best(|| {
+        room.copy_from_slice(black_box(&bytes));
+        black_box(&mut room);
+    });
+    let port = best(|| {
+        room.copy_from_slice(black_box(&bytes));
+        _ = black_box(port::collect(black_box(&mut room)));
+    });
+    room.copy_from_slice(&bytes);
+    let length = port::collect(&mut room);
+    assert_eq!(port::check_store(&room[..length]), left);
+    print(call, store, less(port, copy), bytes.len(), 1);
+}
+
+/// The rows of marking and collecting.
+fn reclaim(long: &Store, small: &Store) {
+    let star = star(LARGE);
+    mark("mark, 255 deltas of 10 edits on 53,000 bytes", long);
+    collect("collect, the same in a chain, all wanted", long, |_| false, 256);
+    collect("collect, the same, every other one wanted, all stay", long, |number| number % 2 == 0, 256);
+    collect("collect, the same, the first half wanted, the rest goes", long, |number| number >= 128, 128);
+    collect("collect, the same in a star, all wanted", &star, |_| false, 256);
+    collect("collect, the same, every other one wanted, the rest but the base goes", &star, |number| number % 2 == 0, 129);
+    mark("mark, 2 deltas of 3 edits on 100 bytes", small);
+    collect("collect, the same, all wanted", small, |_| false, 3);
+    collect("collect, the same, the last goes", small, |number| number == 2, 2);
+}
+
 /// The table.
 pub fn run() {
     println!("| call | dumps | bytes of the store | port, ns | memmove, ns | ratio |");
@@ -78,4 +124,5 @@ pub fn run() {
     restore("restore, 2 deltas of 3 edits on 100 bytes", &small, 1);
     check("check, the same", &small);
     describe("describe, the same", &small);
+    reclaim(&long, &small);
 }

@@ -82,13 +82,17 @@ fn data(bytes: &[u8]) -> Vec<u8> {
     bytes.chunks(13).flat_map(|chunk| [&[0x80 + chunk.len() as u8], chunk].concat()).collect()
 }
 
-/// A chain: dump 0 is whole, of so many bytes, and each of `deltas` more rests on the one before it. Each has so many edits, evenly
-/// apart, of 8 bytes by 7, 8 or 9 in turn, so that the size stays about the same.
-pub fn chain(size: usize, deltas: usize, edits: usize) -> Store {
-    let mut payload = bytes(size);
-    let mut store = [record(0x01, 0, 0).to_vec(), data(&payload)].concat();
+/// Dump 0 is whole, of so many bytes, and each of `deltas` more rests on the one before it, or in a star on dump 0. Each has so many
+/// edits, evenly apart, of 8 bytes by 7, 8 or 9 in turn, so that the size stays about the same.
+fn dumps(size: usize, deltas: usize, edits: usize, star: bool) -> Store {
+    let whole = bytes(size);
+    let mut payload = whole.clone();
+    let mut store = [record(0x01, 0, 0).to_vec(), data(&whole)].concat();
     for number in 1..=deltas {
-        store.extend(record(0x02, number, number - 1));
+        if star {
+            payload.clone_from(&whole);
+        }
+        store.extend(record(0x02, number, if star { 0 } else { number - 1 }));
         let ranges: Vec<(usize, Vec<u8>)> = (0..edits)
             .map(|edit| ((size - 20) / edits * edit + number % 11, vec![number as u8; 7 + (number + edit) % 3]))
             .collect();
@@ -101,4 +105,14 @@ pub fn chain(size: usize, deltas: usize, edits: usize) -> Store {
         }
     }
     Store { bytes: store, dumps: deltas + 1, payload }
+}
+
+/// A chain: each delta rests on the dump before it.
+pub fn chain(size: usize, deltas: usize, edits: usize) -> Store {
+    dumps(size, deltas, edits, false)
+}
+
+/// A star: each delta rests on the whole dump.
+pub fn star(size: usize, deltas: usize, edits: usize) -> Store {
+    dumps(size, deltas, edits, true)
 }

@@ -81,6 +81,8 @@ extern "C" {
     fn latchbeacon_store_check(store: *const u8, store_size: usize) -> Number;
     fn latchbeacon_store_describe(store: *const u8, store_size: usize, number: usize) -> Dump;
     fn latchbeacon_store_restore(store: *const u8, store_size: usize, number: usize, words: Room, lent: usize) -> Number;
+    fn latchbeacon_store_mark(store: *mut u8, store_size: usize, number: usize) -> Number;
+    fn latchbeacon_store_collect(store: *mut u8, store_size: usize) -> Number;
 }
 
 /// The check.
@@ -149,6 +151,19 @@ pub fn describe(store: &[u8], number: usize) -> Dump {
 pub fn restore(store: &[u8], number: usize, words: &mut [u32]) -> usize {
     let (to, lent) = (words.as_mut_ptr(), words.len());
     let answer = unsafe { latchbeacon_store_restore(store.as_ptr(), store.len(), number, to, lent) };
+    assert!(answer.refusal == 0);
+    answer.value
+}
+
+/// Marks a dump unwanted.
+pub fn mark(store: &mut [u8], number: usize) {
+    let answer = unsafe { latchbeacon_store_mark(store.as_mut_ptr(), store.len(), number) };
+    assert!(answer.refusal == 0);
+}
+
+/// Collects a store; answers its new length.
+pub fn collect(store: &mut [u8]) -> usize {
+    let answer = unsafe { latchbeacon_store_collect(store.as_mut_ptr(), store.len()) };
     assert!(answer.refusal == 0);
     answer.value
 }

@@ -3,20 +3,31 @@ use crate::layout::MOST_WORDS;
 use crate::{model, port};
 
 /// The calls, and the refusals that each can give, 0 for none.
-const CALLS: [(&str, &[usize]); 3] = [
+const CALLS: [(&str, &[usize]); 5] = [
     ("check", &[0, 21, 22, 23]),
     ("describe", &[0, 13, 21, 22, 23, 24, 25]),
     ("restore", &[0, 1, 13, 14, 21, 22, 23, 24, 25]),
+    ("mark", &[0, 21, 22, 23, 24]),
+    ("collect", &[0, 21, 22, 23]),
 ];
 
-/// How often each call gave each refusal, 0 for none; and what was described and restored.
+/// How often each call gave each refusal, 0 for none; what was described and restored; and of collections, how many dumps they freed,
+/// and how many unwanted ones they kept.
 pub struct Counts {
-    outcomes: [[u64; 26]; 3],
+    outcomes: [[u64; 26]; 5],
     stores: u64,
     deltas: u64,
     longest: usize,
     largest: usize,
+    freed: u64,
+    kept: u64,
 }
+
+/// What restoring answered, and the words lent.
+pub type Restored = ([usize; 3], Vec<u32>);
+
+/// The bytes of a store that is changed, or the refusal.
+pub type Changed = Result<Vec<u8>, usize>;
 
 /// A store in hex, cut short if it is long.
 fn hex(store: &[u8]) -> String {
@@ -41,16 +52,18 @@ impl Counts {
     /// No counts yet.
     pub fn new() -> Counts {
         Counts {
-            outcomes: [[0; 26]; 3],
+            outcomes: [[0; 26]; 5],
             stores: 0,
             deltas: 0,
             longest: 0,
             largest: 0,
+            freed: 0,
+            kept: 0,
         }
     }
 
-    /// Compares the check of a store.
-    pub fn check(&mut self, store: &[u8]) -> Result<(), String> {
+    /// Compares the check of a store; answers it.
+    pub fn check(&mut self, store: &[u8]) -> Result<[usize; 3], String> {
         let (model, ours) = (model::check_answer(store), port::check(store));
         if model != ours {
             let [model, ours] = [model, ours].map(|answer| format!("{answer:?}"));
@@ -58,7 +71,7 @@ impl Counts {
         }
         self.outcomes[0][model[0]] += 1;
         self.stores += 1;
-        Ok(())
+        Ok(model)
     }
 
     /// Compares the description of a dump; answers it.
@@ -81,7 +94,7 @@ impl Counts {
         store: &[u8],
         number: usize,
         words: &[u32],
-    ) -> Result<([usize; 3], Vec<u32>), String> {
+    ) -> Result<Restored, String> {
         let model = model::restore_answer(store, number, words);
         let ours = port::restore(store, number, words);
         if model != ours {
@@ -104,10 +117,64 @@ impl Counts {
             let refused = self.restore(store, number, &enough[1..])?.0[0] == 14;
             if !accepted || !refused {
                 let text = "the words of the description are not just those that restoring needs";
-                return Err(format!("{text}: {number}\n  store  {}", hex(store)));
+                return self.wrong(text, store, number);
             }
         }
         Ok(())
+    }
+
+    /// Compares a call that may change the bytes of a store, the `which`-th: the answer and every byte lent.
+    fn changed(
+        &mut self,
+        which: usize,
+        call: &str,
+        store: &[u8],
+        model: ([usize; 3], Vec<u8>),
+        ours: ([usize; 3], Vec<u8>),
+    ) -> Result<([usize; 3], Vec<u8>), String> {
+        if model != ours {
+            let [model, ours] =
+                [&model, &ours].map(|(answer, bytes)| format!("{answer:?} {}", hex(bytes)));
+            return Err(fault(call, store, model, ours));
+        }
+        self.outcomes[which][model.0[0]] += 1;
+        Ok(model)
+    }
+
+    /// Compares marking a dump. Answers the bytes after it.
+    pub fn mark(&mut self, store: &[u8], number: usize) -> Result<Changed, String> {
+        let model = model::mark_answer(store, number);
+        let ours = port::mark(store, number);
+        let (answer, bytes) = self.changed(3, &format!("mark {number}"), store, model, ours)?;
+        Ok(match answer[0] {
+            0 => Ok(bytes),
+            refusal => Err(refusal),
+        })
+    }
+
+    /// Compares collecting a store. Answers the bytes in use after it.
+    pub fn collect(&mut self, store: &[u8]) -> Result<Changed, String> {
+        let (model, ours) = (model::collect_answer(store), port::collect(store));
+        let (answer, mut bytes) = self.changed(4, "collect", store, model, ours)?;
+        bytes.truncate(answer[2]);
+        Ok(match answer[0] {
+            0 => Ok(bytes),
+            refusal => Err(refusal),
+        })
+    }
+
+    /// What is wrong with marking or collecting a store, beside the answers.
+    pub fn wrong(&self, text: &str, store: &[u8], number: usize) -> Result<(), String> {
+        Err(format!("{text}: {number}\n  store  {}", hex(store)))
+    }
+
+    /// Counts a dump that a collection freed, or an unwanted one that it kept.
+    pub fn count_fate(&mut self, fate: model::Fate) {
+        match fate {
+            model::Fate::RestedOn => self.kept += 1,
+            model::Fate::Freed => self.freed += 1,
+            _ => {}
+        }
     }
 
     /// All comparisons.
@@ -115,8 +182,11 @@ impl Counts {
         self.outcomes.iter().flatten().sum()
     }
 
-    /// The first call and refusal that never came.
+    /// The first call and refusal that never came, or that no dump was freed, or no unwanted one kept.
     pub fn never(&self) -> Option<String> {
+        if self.freed == 0 || self.kept == 0 {
+            return Some("no dump was freed, or no unwanted one kept".into());
+        }
         for ((call, refusals), counts) in CALLS.iter().zip(&self.outcomes) {
             if let Some(refusal) = refusals.iter().find(|&&refusal| counts[refusal] == 0) {
                 return Some(format!("{call} never answered {refusal}"));
@@ -146,6 +216,10 @@ impl Counts {
         println!(
             "{} stores, {} deltas described; the longest walk has {} steps, the longest message {} words",
             self.stores, self.deltas, self.longest, self.largest
+        );
+        println!(
+            "collections freed {} dumps and kept {} unwanted ones",
+            self.freed, self.kept
         );
     }
 }

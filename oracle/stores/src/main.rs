@@ -1,4 +1,4 @@
-//! Compares the calls of a store with a plain model of 02's T-02. See oracle/README.md.
+//! Compares the calls of a store with a plain model of 02's T-02 and T-13. See oracle/README.md.
 mod compare;
 #[allow(dead_code)]
 #[path = "../../compare/src/layout.rs"]
@@ -9,6 +9,7 @@ mod port;
 #[path = "../../compare/src/random.rs"]
 mod random;
 mod random_stores;
+mod reclaimed;
 mod records;
 mod samples;
 mod short;

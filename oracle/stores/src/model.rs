@@ -1,7 +1,9 @@
-//! The rules of 02's T-02, stated once more and plainly: what the calls of a store must answer. It shares no text with our code:
-//! it reads by the grammar, follows the bases with a list of those passed, and splices the edits from the last to the first.
+//! The rules of 02's T-02 and T-13, stated once more and plainly: what the calls of a store must answer. It shares no text with our
+//! code: it reads by the grammar, follows the bases with a list of those passed, and splices the edits from the last to the first.
+//! What is kept is a set of numbers that bases are added to until none is new.
 use crate::layout::{MOST_WORDS, SYSEX8};
 use std::collections::HashSet;
+use std::ops::Range;
 
 /// The most dumps of a store.
 const MOST_DUMPS: usize = 256;
@@ -22,13 +24,15 @@ pub enum Body {
     Delta { base: usize, edits: Vec<Edit> },
 }
 
-/// A dump of a store.
+/// A dump of a store: also whether it is wanted, and where its records stand.
 pub struct Dump {
     pub number: usize,
     pub body: Body,
+    wanted: bool,
+    place: Range<usize>,
 }
 
-// ---- the grammar: (01 data* | 02 (03 data*)*)*
+// ---- the grammar: (01 data* | 02 (03 data*)*)*, where 11 stands for 01 and 12 for 02 if the dump is not wanted any more
 
 /// Takes `size` bytes off the front, or says that they are not there.
 fn take<'a>(rest: &mut &'a [u8], size: usize) -> Result<&'a [u8], Refusal> {
@@ -81,8 +85,9 @@ fn dumps(store: &[u8]) -> Result<Vec<Dump>, Refusal> {
     let mut rest = store;
     let mut dumps = Vec::new();
     while let Some(&kind) = rest.first() {
+        let start = store.len() - rest.len();
         let (number, body) = match kind {
-            0x01 => {
+            0x01 | 0x11 => {
                 let [a, b, group, id] = take_four(&mut rest)?;
                 if group > 15 {
                     return Err(21);
@@ -90,14 +95,19 @@ fn dumps(store: &[u8]) -> Result<Vec<Dump>, Refusal> {
                 let data = take_data(&mut rest)?;
                 (number(a, b), Body::Whole { group, id, data })
             }
-            0x02 => {
+            0x02 | 0x12 => {
                 let [a, b, c, d] = take_four(&mut rest)?;
                 let (base, edits) = (number(c, d), take_edits(&mut rest)?);
                 (number(a, b), Body::Delta { base, edits })
             }
             _ => return Err(21),
         };
-        dumps.push(Dump { number, body });
+        dumps.push(Dump {
+            number,
+            body,
+            wanted: kind < 0x10,
+            place: start..store.len() - rest.len(),
+        });
     }
     Ok(dumps)
 }
@@ -191,6 +201,49 @@ fn restored(walk: &[&Dump], lent: Option<usize>) -> Result<Restored, Refusal> {
     Ok(found)
 }
 
+// ---- what is kept
+
+/// The numbers of the dumps that are kept: those of the wanted ones, and of the base of each that is kept.
+fn kept(dumps: &[Dump]) -> HashSet<usize> {
+    let wanted = dumps.iter().filter(|dump| dump.wanted);
+    let mut kept: HashSet<usize> = wanted.map(|dump| dump.number).collect();
+    loop {
+        let before = kept.len();
+        for dump in dumps {
+            match dump.body {
+                Body::Delta { base, .. } if kept.contains(&dump.number) => kept.insert(base),
+                _ => continue,
+            };
+        }
+        if kept.len() == before {
+            return kept;
+        }
+    }
+}
+
+/// What a collection does with a number.
+#[derive(Clone, Copy, PartialEq)]
+pub enum Fate {
+    /// It is not held, before and after.
+    NotHeld,
+    /// It is held and stays: wanted, or rested on by a wanted one.
+    Wanted,
+    RestedOn,
+    /// It is held, and freed.
+    Freed,
+}
+
+/// What a collection of a good store does with a number.
+pub fn fate(store: &[u8], number: usize) -> Fate {
+    let dumps = check(store).unwrap_or_default();
+    match dumps.iter().find(|dump| dump.number == number) {
+        None => Fate::NotHeld,
+        Some(dump) if dump.wanted => Fate::Wanted,
+        Some(_) if kept(&dumps).contains(&number) => Fate::RestedOn,
+        Some(_) => Fate::Freed,
+    }
+}
+
 // ---- the calls, each as the fields of its answer
 
 /// The check: refusal, place, dumps.
@@ -237,4 +290,43 @@ pub fn restore_answer(store: &[u8], number: usize, words: &[u32]) -> ([usize; 3]
             ([0, 0, length], message)
         }
     }
+}
+
+/// An answer of one number, and the bytes lent after it: on a refusal as they were.
+fn written(store: &[u8], outcome: Result<(usize, Vec<u8>), Refusal>) -> ([usize; 3], Vec<u8>) {
+    match outcome {
+        Err(refusal) => ([refusal.into(), 0, 0], store.to_vec()),
+        Ok((value, bytes)) => ([0, 0, value], bytes),
+    }
+}
+
+/// Marking: refusal, place, 0; and all bytes lent after it.
+pub fn mark_answer(store: &[u8], number: usize) -> ([usize; 3], Vec<u8>) {
+    let marked = || {
+        let dumps = check(store)?;
+        let dump = dumps.iter().find(|dump| dump.number == number).ok_or(24)?;
+        let mut bytes = store.to_vec();
+        bytes[dump.place.start] = match dump.body {
+            Body::Whole { .. } => 0x11,
+            Body::Delta { .. } => 0x12,
+        };
+        Ok((0, bytes))
+    };
+    written(store, marked())
+}
+
+/// Collecting: refusal, place, new length; and all bytes lent after it.
+pub fn collect_answer(store: &[u8]) -> ([usize; 3], Vec<u8>) {
+    let collected = || {
+        let dumps = check(store)?;
+        let kept = kept(&dumps);
+        let stay = dumps.iter().filter(|dump| kept.contains(&dump.number));
+        let mut bytes: Vec<u8> = stay
+            .flat_map(|dump| store[dump.place.clone()].to_vec())
+            .collect();
+        let length = bytes.len();
+        bytes.resize(store.len(), 0);
+        Ok((length, bytes))
+    };
+    written(store, collected())
 }

@@ -25,6 +25,8 @@ extern "C" {
     fn latchbeacon_store_check(store: *const u8, store_size: usize) -> Number;
     fn latchbeacon_store_describe(store: *const u8, store_size: usize, number: usize) -> Dump;
     fn latchbeacon_store_restore(store: *const u8, store_size: usize, number: usize, words: *mut u32, words_lent: usize) -> Number;
+    fn latchbeacon_store_mark(store: *mut u8, store_size: usize, number: usize) -> Number;
+    fn latchbeacon_store_collect(store: *mut u8, store_size: usize) -> Number;
 }
 
 /// What stands in front of the words lent and behind them.
@@ -69,4 +71,29 @@ pub fn restore(store: &[u8], number: usize, words: &[u32]) -> ([usize; 3], Vec<u
         "words that are not lent"
     );
     (fields(answer), room[1..=lent].to_vec())
+}
+
+/// A call that may change the bytes of a store: its answer, and all bytes lent after it. The bytes beside them must stay.
+fn changed(store: &[u8], call: impl Fn(*mut u8, usize) -> Number) -> ([usize; 3], Vec<u8>) {
+    let lent = store.len();
+    let fence = FENCE.to_be_bytes();
+    let mut room = [&fence[..], store, &fence].concat();
+    let answer = fields(call(room[4..].as_mut_ptr(), lent));
+    let beside = [&room[..4], &room[4 + lent..]];
+    assert_eq!(beside, [fence; 2], "bytes that are not lent");
+    (answer, room[4..4 + lent].to_vec())
+}
+
+/// Marking: refusal, place, 0; and all bytes lent after it.
+pub fn mark(store: &[u8], number: usize) -> ([usize; 3], Vec<u8>) {
+    changed(store, |address, lent| unsafe {
+        latchbeacon_store_mark(address, lent, number)
+    })
+}
+
+/// Collecting: refusal, place, new length; and all bytes lent after it.
+pub fn collect(store: &[u8]) -> ([usize; 3], Vec<u8>) {
+    changed(store, |address, lent| unsafe {
+        latchbeacon_store_collect(address, lent)
+    })
 }

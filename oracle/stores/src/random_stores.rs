@@ -1,16 +1,18 @@
-//! Random stores: mostly good ones with chains, in any order, with some rings, missing bases, bad ranges and numbers used twice; and
-//! damaged copies.
+//! Random stores: mostly good ones with chains, in any order, with some rings, missing bases, bad ranges, numbers used twice and
+//! unwanted dumps; and damaged copies.
 use crate::compare::Counts;
 use crate::layout::MOST_WORDS;
 use crate::random::Random;
+use crate::reclaimed;
 use crate::records::{pair, record};
 
 /// Payload sizes around the boundaries of packets.
 const SIZES: [usize; 14] = [0, 1, 2, 5, 12, 13, 14, 15, 25, 26, 27, 28, 39, 40];
 
 /// Bytes that are kinds, or nearly.
-const KINDS: [u8; 16] = [
-    0x00, 0x01, 0x02, 0x03, 0x04, 0x0F, 0x10, 0x11, 0x12, 0x80, 0x81, 0x82, 0x8C, 0x8D, 0x8E, 0xFF,
+const KINDS: [u8; 17] = [
+    0x00, 0x01, 0x02, 0x03, 0x04, 0x0F, 0x10, 0x11, 0x12, 0x13, 0x80, 0x81, 0x82, 0x8C, 0x8D, 0x8E,
+    0xFF,
 ];
 
 /// A dump as it is written: its number, and its payload size if all goes well.
@@ -129,6 +131,16 @@ fn numbers(random: &mut Random, count: usize) -> Vec<u16> {
         .collect()
 }
 
+/// Some dumps are not wanted any more: none, few, many or all.
+fn unwant(random: &mut Random, dumps: &mut [Planned]) {
+    let wanted = random.pick(&[8, 8, 7, 6, 4, 2, 1, 0]);
+    for dump in dumps {
+        if random.below(8) >= wanted {
+            dump.bytes[0] += 0x10;
+        }
+    }
+}
+
 /// The dumps in another order.
 fn shuffle(random: &mut Random, dumps: &mut [Planned]) {
     match random.below(4) {
@@ -162,6 +174,7 @@ fn store(random: &mut Random) -> (Vec<u8>, Vec<u16>) {
         let copied = numbers[random.below(count)].to_be_bytes();
         dumps[random.below(count)].bytes[1..3].copy_from_slice(&copied);
     }
+    unwant(random, &mut dumps);
     shuffle(random, &mut dumps);
     (
         dumps.into_iter().flat_map(|dump| dump.bytes).collect(),
@@ -217,7 +230,29 @@ fn asked(random: &mut Random, numbers: &[u16]) -> usize {
     }
 }
 
-/// Compares one random store: the check, then two to four dumps, each described and restored.
+/// Marks none to three numbers of a store, held or not, and then collects it. Compared before and after are three answers, then those
+/// of all numbers of a small store or some of a large one, and of one that may not be held.
+fn reclaim(
+    random: &mut Random,
+    counts: &mut Counts,
+    mut store: Vec<u8>,
+    numbers: &[u16],
+) -> Result<(), String> {
+    for _ in 0..random.pick(&[0, 0, 1, 1, 2, 3]) {
+        let number = asked(random, numbers);
+        let watched = [number, asked(random, numbers), asked(random, numbers)];
+        store = reclaimed::mark(counts, &store, number, &watched)?;
+    }
+    let mut watched = match numbers.len() {
+        0..=9 => numbers.to_vec(),
+        _ => (0..9).map(|_| random.pick(numbers)).collect(),
+    };
+    watched.push(random.word() as u16);
+    let watched: Vec<usize> = watched.into_iter().map(usize::from).collect();
+    reclaimed::collect(counts, &store, &watched)
+}
+
+/// Compares one random store: the check, then two to four dumps, each described and restored, then marking and collecting.
 fn one(random: &mut Random, counts: &mut Counts) -> Result<(), String> {
     let (mut store, numbers) = store(random);
     if random.once_in(4) {
@@ -230,10 +265,17 @@ fn one(random: &mut Random, counts: &mut Counts) -> Result<(), String> {
         let count = lent(random, dump[7].max(4));
         counts.restore(&store, number, &words(random, count))?;
     }
-    Ok(())
+    reclaim(random, counts, store, &numbers)
 }
 
-/// A store with a long chain of deltas of ten edits each over some 53,000 bytes; its last dump, in words enough and one fewer.
+/// A good store with a dump of it marked.
+fn marked(counts: &mut Counts, store: &[u8], number: usize) -> Result<Vec<u8>, String> {
+    let marked = counts.mark(store, number)?;
+    marked.map_err(|refusal| format!("marking {number} of a long chain is refused with {refusal}"))
+}
+
+/// A store with a long chain of deltas of ten edits each over some 53,000 bytes; its last dump, in words enough and one fewer; and
+/// collected, with any dumps wanted, and then with none above one of them.
 fn long_chain(random: &mut Random, counts: &mut Counts) -> Result<(), String> {
     let size = random.between(52_900, 53_000);
     let head = record(0x01, &[0, 0, random.below(16) as u8, random.byte()]);
@@ -249,7 +291,18 @@ fn long_chain(random: &mut Random, counts: &mut Counts) -> Result<(), String> {
     }
     counts.check(&store)?;
     let start = words(random, MOST_WORDS);
-    counts.both(&store, 255, &start)
+    counts.both(&store, 255, &start)?;
+    let last = random.between(100, 254);
+    for number in 0..last {
+        if random.once_in(2) {
+            store = marked(counts, &store, number)?;
+        }
+    }
+    reclaimed::collect(counts, &store, &[last, 255])?;
+    for number in last + 1..=255 {
+        store = marked(counts, &store, number)?;
+    }
+    reclaimed::collect(counts, &store, &[last, 255])
 }
 
 /// So many random stores.

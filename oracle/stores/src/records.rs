@@ -31,3 +31,9 @@ pub fn delta(number: u16, base: u16, edits: &[(u16, u16, &[u8])]) -> Vec<u8> {
     }
     bytes
 }
+
+/// A dump that is not wanted any more.
+pub fn gone(mut dump: Vec<u8>) -> Vec<u8> {
+    dump[0] += 0x10;
+    dump
+}

@@ -1,7 +1,7 @@
 //! Stores with what they must answer, made by hand. Ours and the model are both held to it.
-use crate::compare::Counts;
+use crate::compare::{Changed, Counts};
 use crate::layout::SYSEX8;
-use crate::records::{data, delta, pair, record, whole};
+use crate::records::{data, delta, gone, pair, record, whole};
 
 /// What restoring must come to: a payload, of group 3 and stream id 9, or a refusal.
 enum Wanted {
@@ -16,8 +16,13 @@ type Sample = (&'static str, Vec<u8>, usize, usize, Wanted);
 
 /// A chain: dump 0 is whole, and each further one puts its own number before the payload of the one before it.
 fn chain(deltas: u16) -> Vec<u8> {
-    let links = (1..=deltas).map(|number| delta(number, number - 1, &[(0, 0, &[number as u8])]));
-    whole(0, &[0]).into_iter().chain(links.flatten()).collect()
+    let links = (1..=deltas).flat_map(chain_link);
+    whole(0, &[0]).into_iter().chain(links).collect()
+}
+
+/// A delta of that chain.
+fn chain_link(number: u16) -> Vec<u8> {
+    delta(number, number - 1, &[(0, 0, &[number as u8])])
 }
 
 /// A ring of so many deltas, from 0.
@@ -131,8 +136,8 @@ fn format() -> Vec<Sample> {
     vec![
         sample("an unknown kind", with(&record(0x04, &[0; 4]))),
         sample("kind 00", with(&record(0x00, &[0; 4]))),
-        sample("kind 11", with(&record(0x11, &[0; 4]))),
-        sample("kind 12", with(&record(0x12, &[0; 4]))),
+        sample("kind 10", with(&record(0x10, &[0; 4]))),
+        sample("kind 13", with(&record(0x13, &[0; 4]))),
         sample("kind 80", with(&record(0x80, &[]))),
         sample("kind 8E", with(&record(0x8E, &[0; 14]))),
         sample("a short whole dump", with(&[0x01, 0, 2, 0])),
@@ -207,6 +212,179 @@ fn others() -> Vec<Sample> {
     ]
 }
 
+/// A name, a store, the numbers to mark before it is collected, and the bytes in use then, or the refusal of the first call that refuses.
+type Reclaimed = (&'static str, Vec<u8>, Vec<usize>, Changed);
+
+/// Chains that are collected: dump 1 is whole, 2 is a delta of it, 3 one of 2.
+fn collected_chains() -> Vec<Reclaimed> {
+    let (one, two, three) = (
+        whole(1, &[1; 14]),
+        delta(2, 1, &[(0, 1, &[8, 9]), (3, 3, &[])]),
+        delta(3, 2, &[(1, 2, &[0x01, 0, 9, 0, 0])]),
+    );
+    let store = [&one[..], &two, &three].concat();
+    let [gone_one, gone_two, gone_three] = [&one, &two, &three].map(|dump| gone(dump.clone()));
+    let backwards = [&three[..], &two, &one].concat();
+    let gone_links = (1..=254).flat_map(|number| gone(chain_link(number)));
+    let gone_chain = gone(whole(0, &[0])).into_iter().chain(gone_links);
+    let last_wanted: Vec<u8> = gone_chain.chain(chain_link(255)).collect();
+    vec![
+        ("nothing at all", vec![], vec![], Ok(vec![])),
+        ("nothing unwanted", store.clone(), vec![], Ok(store.clone())),
+        ("all unwanted", store.clone(), vec![3, 1, 2], Ok(vec![])),
+        (
+            "unwanted bases",
+            store.clone(),
+            vec![1, 2],
+            Ok([&gone_one[..], &gone_two, &three].concat()),
+        ),
+        (
+            "unwanted bases behind their deltas",
+            backwards.clone(),
+            vec![1, 2],
+            Ok([&three[..], &gone_two, &gone_one].concat()),
+        ),
+        (
+            "the middle unwanted",
+            store.clone(),
+            vec![2, 2],
+            Ok([&one[..], &gone_two, &three].concat()),
+        ),
+        (
+            "the last unwanted",
+            backwards.clone(),
+            vec![3],
+            Ok([&two[..], &one].concat()),
+        ),
+        (
+            "the last two unwanted",
+            backwards,
+            vec![2, 3],
+            Ok(one.clone()),
+        ),
+        (
+            "unwanted before",
+            [&gone_three[..], &gone_one, &two].concat(),
+            vec![],
+            Ok([&gone_one[..], &two].concat()),
+        ),
+        (
+            "256 dumps, the last wanted",
+            chain(255),
+            (0..255).collect(),
+            Ok(last_wanted),
+        ),
+        (
+            "256 dumps, the last unwanted",
+            chain(255),
+            vec![255],
+            Ok(chain(254)),
+        ),
+        (
+            "256 dumps, the first wanted",
+            chain(255),
+            (1..256).collect(),
+            Ok(chain(0)),
+        ),
+    ]
+}
+
+/// Rings and walks that end at a number not held, collected.
+fn collected_walks() -> Vec<Reclaimed> {
+    let (into, missing) = (
+        [delta(9, 0, &[]), ring(2)].concat(),
+        [delta(1, 2, &[]), delta(2, 3, &[]), whole(4, &[])].concat(),
+    );
+    let gone_ring = [gone(delta(0, 1, &[])), gone(delta(1, 0, &[]))].concat();
+    vec![
+        (
+            "a ring that no wanted dump leads into",
+            [ring(3), whole(9, &[5])].concat(),
+            vec![0, 1, 2],
+            Ok(whole(9, &[5])),
+        ),
+        (
+            "a ring that a wanted dump leads into",
+            into.clone(),
+            vec![0, 1],
+            Ok([delta(9, 0, &[]), gone_ring].concat()),
+        ),
+        (
+            "a ring with one wanted dump, and an unwanted one that leads into it",
+            into,
+            vec![9, 0],
+            Ok([gone(delta(0, 1, &[])), delta(1, 0, &[])].concat()),
+        ),
+        ("a ring of one", ring(1), vec![], Ok(ring(1))),
+        ("a ring of one, unwanted", ring(1), vec![0], Ok(vec![])),
+        (
+            "a walk to a number not held",
+            missing.clone(),
+            vec![2, 4],
+            Ok([delta(1, 2, &[]), gone(delta(2, 3, &[]))].concat()),
+        ),
+        (
+            "an unwanted walk to a number not held",
+            missing.clone(),
+            vec![1, 2],
+            Ok(whole(4, &[])),
+        ),
+        (
+            "a base that is not held is marked",
+            missing.clone(),
+            vec![3],
+            Err(24),
+        ),
+        (
+            "a number of three bytes is marked",
+            missing,
+            vec![65_537],
+            Err(24),
+        ),
+        ("no number is held", vec![], vec![0], Err(24)),
+    ]
+}
+
+/// Stores that are neither marked nor collected.
+fn not_collected() -> Vec<Reclaimed> {
+    let format = vec![0x11, 0, 1, 16, 0];
+    let twice = [whole(1, &[]), gone(delta(1, 1, &[]))].concat();
+    let full = [many(256), gone(whole(256, &[]))].concat();
+    vec![
+        ("format, marked", format.clone(), vec![1], Err(21)),
+        ("format, collected", format, vec![], Err(21)),
+        ("twice, marked", twice.clone(), vec![7], Err(22)),
+        ("twice, collected", twice, vec![], Err(22)),
+        ("full, marked", full.clone(), vec![999], Err(23)),
+        ("full, collected", full, vec![], Err(23)),
+    ]
+}
+
+/// Marks numbers of a store and collects it: the bytes in use then, or the first refusal.
+fn reclaim(counts: &mut Counts, mut store: Vec<u8>, marks: &[usize]) -> Result<Changed, String> {
+    for &number in marks {
+        match counts.mark(&store, number)? {
+            Err(refusal) => return Ok(Err(refusal)),
+            Ok(bytes) => store = bytes,
+        }
+    }
+    counts.collect(&store)
+}
+
+/// Runs all samples that are marked and collected; answers how many there are.
+fn run_reclaimed(counts: &mut Counts) -> Result<usize, String> {
+    let lists = [collected_chains(), collected_walks(), not_collected()];
+    let samples: Vec<Reclaimed> = lists.into_iter().flatten().collect();
+    for (name, store, marks, wanted) in &samples {
+        if reclaim(counts, store.clone(), marks)? != *wanted {
+            return Err(format!(
+                "{name}: not what was worked out by hand, {wanted:X?}"
+            ));
+        }
+    }
+    Ok(samples.len())
+}
+
 /// Runs all samples; answers how many there are.
 pub fn run(counts: &mut Counts) -> Result<usize, String> {
     let lists = [restored(), on_the_walk(), format(), others()];
@@ -230,5 +408,5 @@ pub fn run(counts: &mut Counts) -> Result<usize, String> {
             ));
         }
     }
-    Ok(samples.len())
+    Ok(samples.len() + run_reclaimed(counts)?)
 }

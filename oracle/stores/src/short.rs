@@ -1,6 +1,7 @@
 //! All short stores of some kinds.
 use crate::compare::Counts;
-use crate::records::{data, delta, pair, record, whole};
+use crate::reclaimed;
+use crate::records::{data, delta, gone, pair, record, whole};
 
 /// The words that are lent where nothing else is said.
 const WORDS: [u32; 9] = [0x0102_0304; 9];
@@ -23,21 +24,24 @@ fn rows<T: Clone>(
     Ok(())
 }
 
-/// Every row of up to four records out of fourteen, whole and with the last cut off at every byte.
+/// Every row of up to four records out of seventeen, whole and with the last cut off at every byte.
 fn records(counts: &mut Counts) -> Result<(), String> {
     let kinds = [
         whole(1, &[]),
         record(0x01, &[0, 2, 15, 0xFF]),
         record(0x01, &[0, 3, 16, 0]),
+        gone(whole(1, &[])),
         pair(0x02, 1, 2),
         pair(0x02, 2, 1),
+        pair(0x12, 2, 1),
         pair(0x03, 0, 0),
         pair(0x03, 1, 2),
         pair(0x03, 2, 1),
         data(&[7]),
         data(&[8; 13]),
         record(0x00, &[0; 4]),
-        record(0x11, &[0; 4]),
+        record(0x10, &[0; 4]),
+        record(0x13, &[0; 4]),
         record(0x80, &[0; 4]),
         record(0x8E, &[0; 14]),
     ];
@@ -49,24 +53,59 @@ fn records(counts: &mut Counts) -> Result<(), String> {
         }
         counts.check(&store)?;
         counts.describe(&store, 1)?;
-        counts.restore(&store, 1, &WORDS).map(drop)
+        counts.restore(&store, 1, &WORDS)?;
+        _ = counts.mark(&store, 1)?;
+        counts.collect(&store).map(drop)
     })
 }
 
-/// Every way in which up to five dumps rest on each other: each is whole, or a delta of any of them or of one that is not held. Each
+/// Every way in which so many dumps rest on each other: each is whole, or a delta of any of them or of one that is not held. Each
 /// delta puts its own number in, so that the payload shows the walk.
+fn ways(count: u16) -> impl Iterator<Item = Vec<Vec<u8>>> {
+    let ways = usize::from(count) + 2;
+    let dump = move |code: usize, number: u16| match (code / ways.pow(number.into()) % ways) as u16
+    {
+        base if base <= count => delta(number, base, &[(1, 1, &[number as u8])]),
+        _ => whole(number, &[0xD0, 0xD1]),
+    };
+    (0..ways.pow(count.into()))
+        .map(move |code| (0..count).map(|number| dump(code, number)).collect())
+}
+
+/// Every way in which up to five dumps rest on each other.
 fn walks(counts: &mut Counts) -> Result<(), String> {
-    for count in 1..=5u16 {
-        let ways = usize::from(count) + 2;
-        for code in 0..ways.pow(count.into()) {
-            let dump = |number: u16| match (code / ways.pow(number.into()) % ways) as u16 {
-                base if base <= count => delta(number, base, &[(1, 1, &[number as u8])]),
-                _ => whole(number, &[0xD0, 0xD1]),
-            };
-            let store: Vec<u8> = (0..count).flat_map(dump).collect();
+    for count in 1..=5 {
+        for dumps in ways(count) {
+            let store = dumps.concat();
             counts.check(&store)?;
             for number in 0..=count {
                 counts.both(&store, number.into(), &WORDS[..4])?;
+            }
+        }
+    }
+    Ok(())
+}
+
+/// Every way in which up to five dumps rest on each other, with any of them wanted: collected, and of up to four dumps each number
+/// before and after; of up to three each number marked.
+fn collections(counts: &mut Counts) -> Result<(), String> {
+    for count in 1..=5u16 {
+        for (dumps, unwanted) in
+            ways(count).flat_map(|dumps| (0..1 << count).map(move |set| (dumps.clone(), set)))
+        {
+            let dumps = dumps.into_iter().enumerate();
+            let dump = |(index, dump)| {
+                if unwanted >> index & 1 == 1 {
+                    gone(dump)
+                } else {
+                    dump
+                }
+            };
+            let store: Vec<u8> = dumps.flat_map(dump).collect();
+            let numbers: Vec<usize> = (0..=count.into()).filter(|_| count < 5).collect();
+            reclaimed::collect(counts, &store, &numbers)?;
+            for &number in numbers.iter().filter(|_| count < 4) {
+                reclaimed::mark(counts, &store, number, &numbers)?;
             }
         }
     }
@@ -139,6 +178,7 @@ fn boundaries(counts: &mut Counts) -> Result<(), String> {
 pub fn run(counts: &mut Counts) -> Result<(), String> {
     records(counts)?;
     walks(counts)?;
+    collections(counts)?;
     edits(counts)?;
     sizes(counts)?;
     boundaries(counts)

@@ -15,7 +15,7 @@ use Rattle.ump.proofs.Joined.{joined-cong}
 use Rattle.ump.proofs.Sizes.{words-pos}
 use Rattle.ump.proofs.Bytes.{length-payloadAt, getD-payloadAt}
 
-drop-take : {A : Type 0} (n m : ℕ) (l : List A) → drop n (take m l) ≡ take (m - n) (drop n l)
+pub drop-take : {A : Type 0} (n m : ℕ) (l : List A) → drop n (take m l) ≡ take (m - n) (drop n l)
 drop-take zero m l = rw (sub-zero m)
 drop-take (suc n) zero l = rw (zero-sub (suc n))
 drop-take (suc n) (suc m) [] = sym (take-nil (suc m - suc n))

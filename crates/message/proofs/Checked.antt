@@ -1,42 +1,25 @@
 -- What the check answers, from what its scan found. Assumes nothing.
 use mathlib.Core.Path.{_≡_, refl, sym, ap, ap₂, _∙_}
 use mathlib.Core.List.{List}
-use Prim.Native.Nat.{ℕ, _*_, _/_, _<_}
-use native.Mathlib.Nat.{mul-pos, mul-div-right}
+use Prim.Native.Nat.{ℕ, suc, _-_, _*_, _/_, _<_}
+use native.Mathlib.Nat.{mul-pos, mul-div-right, le-mul-of-pos-right, div-add-mod}
 use native.Mathlib.Omega.{arith}
 use lib.ListN.{length, getD}
-use Rattle.refusal.specs.Answer.{gives, refused, pass}
+use Rattle.refusal.specs.Answer.{Verdict, gives, refused, pass, _▷_}
 use Rattle.refusal.proofs.Laws.{given-passes, refused-by}
 use Rattle.ump.specs.Word.{nibble}
 use Rattle.ump.specs.Packet.{Shape, sysex8, sysex7, countAt, groupAt, idAt}
 use Rattle.ump.specs.Check.{check, checked, payloadOf, Summary, Valid}
 use Rattle.ump.proofs.Sizes.{words-pos}
 use Rattle.ump.proofs.Checks.{passes-valid}
-use Rattle.message.specs.Scan.{Inside, Counted, Shaped, scanOf, no-id, one-id}
+use Rattle.message.specs.Scan.{Framed, Inside, Counted, Shaped, orNone, inOrder, sizeFound, no-id, one-id}
+use Rattle.message.proofs.Bounds.{check-framed, payload-framed}
 
 pub shaped8 : Shaped sysex8 4 5 1 14 256
 shaped8 = record { words-are = refl; type-is = refl; least-is = refl; most-is = refl; ids-are = one-id }
 
 pub shaped7 : Shaped sysex7 2 3 0 6 1
 shaped7 = record { words-are = refl; type-is = refl; least-is = refl; most-is = refl; ids-are = no-id }
-
-module _ (s : Shape) (ws : List ℕ) (len : ℕ) where
-  pub checked-size : {size : ℕ} → gives size ≡ scanOf s ws len
-      → gives (record { group = groupAt s ws 0; id = idAt s ws 0; size = size; words = len }) ≡ checked s ws len
-  unfolding checked
-  checked-size e =
-      let g = given-passes (check s ws len) (sym e) in
-      rw (g .0, g .1)
-
-  pub checked-fault : {n p : ℕ} → refused n p ≡ scanOf s ws len → refused n p ≡ checked s ws len
-  unfolding checked
-  checked-fault e = rw (refused-by (check s ws len) (length (payloadOf s ws len)) (sym e))
-
-  -- a message that passed has a first word
-  pub scan-begins : {size : ℕ} → gives size ≡ scanOf s ws len → 0 < length ws
-  scan-begins e =
-      let v = passes-valid s ws len (given-passes (check s ws len) (sym e) .0) in
-      omega (arith, v .inside, v .whole, mul-pos (words-pos s) (v .some-packet))
 
 -- ---- what a call learns from the check
 
@@ -56,19 +39,61 @@ module _ (s : Shape) (ws : List ℕ) (len : ℕ) where
   unfolding checked
   not-taken e = refused-by (check s ws len) _ e
 
+  -- the same, by the number found
+  pub found-none : {found : ℕ} → found ≡ sizeFound s ws len → found ≡ 0 → check s ws len ≡ pass → ⊥
+  found-none e z p = let q : 0 ≡ suc (length (payloadOf s ws len)) = sym z ∙ e ∙ rw p in omega arith
+
+  pub found-taken : {found : ℕ} → found ≡ sizeFound s ws len → (found ≡ 0 → ⊥) → Taken s ws len (found - 1)
+  found-taken {found} e z = go (check s ws len) refl
+    where
+      go : (v : Verdict) → check s ws len ≡ v → Taken s ws len (found - 1)
+      go (gives u) p =
+          let k : sizeFound s ws len ≡ suc (length (payloadOf s ws len)) = rw p in
+          record { passes = p; valid = passes-valid s ws len p; sized = omega arith }
+      go (refused number place) p =
+          let k : sizeFound s ws len ≡ 0 = rw p in
+          absurd (z (e ∙ k))
+
+  -- a message that was taken has a first word
+  pub taken-begins : {size : ℕ} → Taken s ws len size → 0 < length ws
+  taken-begins m = let v = m .valid in omega (arith, v .inside, v .whole, mul-pos (words-pos s) (v .some-packet))
+
+  -- the answers of the check
+  pub checked-fault : {n p : ℕ} → refused n p ≡ check s ws len → refused n p ≡ checked s ws len
+  unfolding checked
+  checked-fault e = rw (← e)
+
+  pub checked-size : {size : ℕ} → Taken s ws len size
+      → gives (record { group = groupAt s ws 0; id = idAt s ws 0; size = size; words = len }) ≡ checked s ws len
+  unfolding checked
+  checked-size m = rw (m .passes, ← (m .sized))
+
 -- the packets of a message that was taken
 module _ {stride type least most modulus : ℕ} (s : Shape) (h : Shaped s stride type least most modulus) (ws : List ℕ) (len : ℕ) (v : Valid s ws len) where
   packets-are : len / stride ≡ v .packets
   packets-are =
       ap (λ (w : ℕ). len / w) (sym (h .words-are)) ∙ ap (λ (l : ℕ). l / s .words) (v .whole) ∙ mul-div-right (v .packets) (words-pos s)
 
+  whole-is : stride * (len / stride) ≡ len
+  whole-is = ap₂ (λ (a b : ℕ). a * b) (sym (h .words-are)) packets-are ∙ sym (v .whole)
+
   pub taken-inside : Inside stride (len / stride) ws
   taken-inside =
-      let w : stride * (len / stride) ≡ len = ap₂ (λ (a b : ℕ). a * b) (sym (h .words-are)) packets-are ∙ sym (v .whole) in
       record {
         some-words = rw (h .words-are) at (words-pos s);
-        there = omega (arith, v .inside);
-        few = omega (arith, v .inside, v .short-enough);
+        there = omega (arith, whole-is, v .inside);
+        few = omega (arith, whole-is, v .inside, v .short-enough);
+      }
+
+  valid-framed : Framed (length ws) len stride (len / stride)
+  valid-framed =
+      let some : 0 < len / stride = rw packets-are (v .some-packet) in
+      record {
+        few = v .short-enough;
+        inside = v .inside;
+        long-enough = omega (arith, whole-is, le-mul-of-pos-right stride some);
+        ragged-not = omega (arith, whole-is, div-add-mod len stride);
+        packets = refl;
       }
 
   pub taken-counted : Counted stride (len / stride) least most ws
@@ -76,3 +101,15 @@ module _ {stride type least most modulus : ℕ} (s : Shape) (h : Shaped s stride
       let k = v .counts p (rw packets-are at l) in
       let c : nibble (getD ws (stride * p) 0) 3 ≡ countAt s ws p = rw (h .words-are) in
       (rw (c, ← (h .least-is)) (k .0), rw (c, ← (h .most-is)) (k .1))
+
+-- the number found, by the packets
+module _ {stride type least most modulus : ℕ} (s : Shape) (h : Shaped s stride type least most modulus) (ws : List ℕ) (len : ℕ) where
+  pub found-unframed : ((m : ℕ) → Framed (length ws) len stride m → ⊥) → 0 ≡ sizeFound s ws len
+  found-unframed none = go (check s ws len) refl
+    where
+      go : (v : Verdict) → check s ws len ≡ v → 0 ≡ orNone (v ▷ gives (suc (length (payloadOf s ws len))))
+      go (gives u) p = absurd (none _ (valid-framed s h ws len (passes-valid s ws len p)))
+      go (refused number place) p = refl
+
+  pub found-framed : {n : ℕ} → Framed (length ws) len stride n → inOrder s ws n ≡ sizeFound s ws len
+  found-framed f = rw (check-framed s h ws len f, payload-framed s h ws len f)

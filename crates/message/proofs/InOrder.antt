@@ -1,43 +1,30 @@
--- Packets that are all in order, by the numbers of their first words. Assumes nothing.
-use mathlib.Core.Path.{_≡_, refl, sym, ap, ap₂, _∙_, subst}
+-- Packets that are all in order: what the check asks of their first words, and the faults and counts added up. Assumes nothing.
+use mathlib.Core.Path.{_≡_, refl, sym, ap, _∙_}
 use mathlib.Core.Bool.{false, not}
 use mathlib.Core.List.{List}
-use Prim.Native.Nat.{ℕ, _+_, _-_, _*_, _/_, _%_, _^_, _≤_, _<_}
+use Prim.Native.Nat.{ℕ, zero, suc, _+_, _-_, _*_, _/_, _%_, _^_, _≤_, _<_}
+use native.Mathlib.Nat.{mul-zero, mul-one, mul-suc}
 use native.Mathlib.Numerals.{add-one}
 use native.Mathlib.Omega.{arith}
 use lib.Dec.{eqb, ltb}
-use lib.ListN.{length, getD, length-append}
+use lib.ListN.{length, getD}
 use borrow.Author.Tests.{eq-eqb, eqb-true, not-false, ltb-false}
-use Rattle.refusal.specs.Answer.{pass}
+use Rattle.refusal.specs.Answer.{Verdict, gives, refused, pass, _▷_}
 use Rattle.ump.specs.Word.{nibble}
-use Rattle.ump.specs.Packet.{Shape, countAt, sizeAt, payloadAt, joined, payload}
+use Rattle.ump.specs.Packet.{Shape, payload}
 use Rattle.ump.specs.Packing.{statusFor}
 use Rattle.ump.specs.Check.{badType, badStatus, badCount, badGroup, badId, statusNumber, checkPackets}
-use Rattle.ump.proofs.Sizes.{size-of-count}
-use Rattle.ump.proofs.First.{Side, under, over, side}
-use Rattle.ump.proofs.Bytes.{length-payloadAt}
+use Rattle.ump.specs.Edits.{total}
+use Rattle.ump.proofs.Sizes.{status-inner, place-last}
 use Rattle.ump.proofs.Checks.{sweep-pass, pass-sweep, pass-both, both-pass, or-left, or-right}
-use Rattle.message.specs.Scan.{countOut, Shaped}
+use Rattle.ump.proofs.Counting.{total-const}
+use Rattle.ump.proofs.Moving.{total-ge}
+use Rattle.ump.proofs.Replace.{total-cong}
+use Rattle.message.specs.Scan.{Inside, countOut, sizeTo, Shaped, faulty, one, orNone, inOrder}
 use Rattle.message.proofs.Laws.{count-in}
 use Rattle.message.proofs.Stages.{type-at, status-at, count-at, group-at, id-at}
-
--- the first word x of packet p of n is in order, where head is that of packet 0
-pub record Numbers (type least most modulus head n p x : ℕ) : Type 0 where
-  pub of-type : x / 2 ^ 28 % 16 ≡ type
-  pub in-step : x / 2 ^ 20 % 16 ≡ statusFor n p
-  pub enough : least ≤ x / 2 ^ 16 % 16
-  pub fitting : x / 2 ^ 16 % 16 ≤ most
-  pub one-group : x / 2 ^ 24 % 16 ≡ head / 2 ^ 24 % 16
-  pub one-stream : x / 2 ^ 8 % modulus ≡ head / 2 ^ 8 % modulus
-
--- type and group are the first octet
-pub first-octet : (x head type : ℕ) → x / 2 ^ 24 ≡ type * 16 + head / 2 ^ 24 % 16 → type < 16
-    → (x / 2 ^ 28 % 16 ≡ type) × (x / 2 ^ 24 % 16 ≡ head / 2 ^ 24 % 16)
-first-octet x head type e h = (omega arith, omega arith)
-
-pub octet-first : (x head type : ℕ) → x < 2 ^ 32 → x / 2 ^ 28 % 16 ≡ type → x / 2 ^ 24 % 16 ≡ head / 2 ^ 24 % 16
-    → x / 2 ^ 24 ≡ type * 16 + head / 2 ^ 24 % 16
-octet-first x head type h e f = omega arith
+use Rattle.message.proofs.Sizes.{total-most, size-to}
+use Rattle.message.proofs.Masks.{Numbers, maskFor, baseFor, not-faulty, one-small, clear-numbers, numbers-clear}
 
 module _ {stride type least most modulus : ℕ} (s : Shape) (ws : List ℕ) (n : ℕ) (h : Shaped s stride type least most modulus) where
   abbrev InStep : ℕ → Type 0
@@ -46,7 +33,7 @@ module _ {stride type least most modulus : ℕ} (s : Shape) (ws : List ℕ) (n :
   equal : (a b : ℕ) → not (eqb a b) ≡ false → a ≡ b
   equal a b e = eqb-true a b (not-false (eqb a b) e)
 
-  pub passes-numbers : checkPackets s ws n ≡ pass → (p : ℕ) → p < n → InStep p
+  passes-numbers : checkPackets s ws n ≡ pass → (p : ℕ) → p < n → InStep p
   unfolding checkPackets
   passes-numbers e p l =
       let e1 = pass-both _ _ e in
@@ -64,7 +51,7 @@ module _ {stride type least most modulus : ℕ} (s : Shape) (ws : List ℕ) (n :
         one-stream = equal _ _ (sym (id-at s ws n h p) ∙ pass-sweep s (λ p. 12) (badId s ws) n (e4 .1) p l);
       }
 
-  pub numbers-pass : ((p : ℕ) → p < n → InStep p) → checkPackets s ws n ≡ pass
+  numbers-pass : ((p : ℕ) → p < n → InStep p) → checkPackets s ws n ≡ pass
   unfolding checkPackets
   numbers-pass f =
       both-pass (sweep-pass s (λ p. 5) (badType s ws) n (λ p l. type-at s ws n h p ∙ ap not (eq-eqb _ _ (f p l .of-type))))
@@ -73,50 +60,149 @@ module _ {stride type least most modulus : ℕ} (s : Shape) (ws : List ℕ) (n :
       (both-pass (sweep-pass s (λ p. 11) (badGroup s ws) n (λ p l. group-at s ws n h p ∙ ap not (eq-eqb _ _ (f p l .one-group))))
       (sweep-pass s (λ p. 12) (badId s ws) n (λ p l. id-at s ws n h p ∙ ap not (eq-eqb _ _ (f p l .one-stream)))))))
 
-  -- one packet more, and its bytes
-  pub one-more : (p size : ℕ) → s .words * p + s .words ≤ length ws → InStep p → size ≡ length (payload s ws p)
-      → size + (getD ws (stride * p) 0 / 2 ^ 16 % 16 - least) ≡ length (payload s ws (p + 1))
-  unfolding payload joined
-  one-more p size there k e =
-      let c : countAt s ws p ≡ getD ws (stride * p) 0 / 2 ^ 16 % 16 = rw (h .words-are) in
-      let fits : countAt s ws p ≤ s .room + s .bias = rw (c, h .most-is) (k .fitting) in
-      let z : sizeAt s ws p ≡ getD ws (stride * p) 0 / 2 ^ 16 % 16 - least = size-of-count s (countAt s ws p) fits ∙ ap₂ (λ (a b : ℕ). a - b) c (h .least-is) in
-      rw add-one (omega (arith, length-append (joined (payloadAt s ws) p) (payloadAt s ws p), length-payloadAt s ws p there, z, e))
+-- ---- faults and counts added up
 
-  pub none-yet : 0 ≡ length (payload s ws 0)
-  unfolding payload joined
-  none-yet = refl
+-- what a pass over packets is given: the numbers of a shape, the words, and how many packets
+pub record Pass : Type 0 where
+  pub type : ℕ
+  pub stride : ℕ
+  pub least : ℕ
+  pub most : ℕ
+  pub modulus : ℕ
+  pub words : List ℕ
+  pub packets : ℕ
 
--- what a loop over the packets knows at packet p
-pub record SoFar (type stride least most modulus : ℕ) (ws : List ℕ) (n p size : ℕ) : Type 0 where
-  pub within : p ≤ n
-  pub small : size ≤ 15 * p
-  pub each : (j : ℕ) → j < p → Numbers type least most modulus (getD ws 0 0) n j (getD ws (stride * j) 0)
-  pub sized : (s : Shape) → Shaped s stride type least most modulus → size ≡ length (payload s ws p)
+-- the first word of packet p
+abbrev wordAt : Pass → ℕ → ℕ
+wordAt k p = getD (k .words) (k .stride * p) 0
 
-module _ {type stride least most modulus : ℕ} {ws : List ℕ} {n : ℕ} where
-  pub so-far-none : SoFar type stride least most modulus ws n 0 0
-  so-far-none =
+-- what is wanted of it, by its status; whether it is at fault, 1 if so
+abbrev wantedBy : Pass → ℕ → ℕ
+wantedBy k status = baseFor (k .type) (k .modulus) (getD (k .words) 0 0) + status * 2 ^ 20
+
+abbrev pub judged : Pass → ℕ → ℕ → ℕ
+judged k status x = one (faulty (maskFor (k .modulus)) (wantedBy k status) (k .least) (k .most) x)
+
+-- faults and count of packet p
+abbrev pub faultAt : Pass → ℕ → ℕ
+faultAt k p = judged k (statusFor (k .packets) p) (wordAt k p)
+
+abbrev pub countedAt : Pass → ℕ → ℕ
+countedAt k p = wordAt k p / 2 ^ 16 % 16
+
+-- what the pass knows at packet p: faults and counts of the packets before it and of the last
+pub record Summed (k : Pass) (last p bad counts : ℕ) : Type 0 where
+  pub begun : 0 < p
+  pub within : p ≤ last
+  pub bad-is : bad ≡ total (faultAt k) p + faultAt k last
+  pub counts-is : counts ≡ total (countedAt k) p + countedAt k last
+
+total-one : (f : ℕ → ℕ) {n : ℕ} → n ≡ 1 → total f n ≡ f 0
+unfolding total
+total-one f e = rw e (omega arith)
+
+counts-are : (k : Pass) (n : ℕ) → ((p : ℕ) → p < n → k .least ≤ countedAt k p)
+    → total (countedAt k) n ≡ k .least * n + sizeTo (k .stride) (k .least) (k .words) n
+unfolding sizeTo total
+counts-are k zero h = omega arith
+counts-are k (suc n) h = omega (arith, counts-are k n (λ p l. h p (omega arith)), h n (omega arith), mul-suc (k .least) n)
+
+module _ (k : Pass) where
+  -- the first packet, one in the loop, and the last
+  pub fault-first : {status : ℕ} → status ≡ statusFor (k .packets) 0 → judged k status (getD (k .words) 0 0) ≡ faultAt k 0
+  fault-first e = rw (e, mul-zero (k .stride))
+
+  pub fault-inner : (p : ℕ) → 0 < p → suc p < k .packets → judged k 2 (wordAt k p) ≡ faultAt k p
+  fault-inner p a b = rw (status-inner (k .packets) p (λ e. omega arith) (λ e. omega arith) (λ e. omega arith))
+
+  pub fault-last : (p : ℕ) → 0 < p → suc p ≡ k .packets → judged k 3 (wordAt k p) ≡ faultAt k p
+  unfolding statusFor
+  fault-last p a b = rw (place-last {A = ℕ} 0 1 2 3 (k .packets) p (λ e. omega arith) (λ e. omega arith) b)
+
+  pub fault-small : (p : ℕ) → faultAt k p ≤ 1
+  fault-small p = one-small (faulty (maskFor (k .modulus)) (wantedBy k (statusFor (k .packets) p)) (k .least) (k .most) (wordAt k p))
+
+  -- the count of a packet that is not at fault, and of the only one
+  pub counts-enough : (p : ℕ) → faultAt k p ≡ 0 → k .least ≤ countedAt k p
+  counts-enough p e = not-faulty (maskFor (k .modulus)) (wantedBy k (statusFor (k .packets) p)) (k .least) (k .most) (wordAt k p) e .1
+
+  pub count-first : countedAt k 0 ≡ getD (k .words) 0 0 / 2 ^ 16 % 16
+  count-first = rw (mul-zero (k .stride))
+
+module _ {k : Pass} {last : ℕ} where
+  pub summed-start : {bad counts : ℕ} → 0 < last → faultAt k 0 ≡ 0 → bad ≡ faultAt k last → counts ≡ countedAt k 0 + countedAt k last
+      → Summed k last 1 bad counts
+  unfolding total
+  summed-start h z e c = record { begun = omega arith; within = omega arith; bad-is = omega arith; counts-is = omega arith }
+
+  pub summed-more : {p bad counts x y : ℕ} → Summed k last p bad counts → p < last → x ≡ faultAt k p → y ≡ countedAt k p
+      → Summed k last (p + 1) (bad + x) (counts + y)
+  unfolding total
+  summed-more i l e c =
       record {
+        begun = omega arith;
         within = omega arith;
-        small = omega arith;
-        each = λ j l. absurd (omega arith);
-        sized = λ s h. none-yet s ws n h;
+        bad-is = rw add-one (omega (arith, i .bad-is));
+        counts-is = rw add-one (omega (arith, i .counts-is));
       }
 
-  pub so-far-more : {p size : ℕ} → SoFar type stride least most modulus ws n p size → p < n → stride * p + stride ≤ length ws
-      → Numbers type least most modulus (getD ws 0 0) n p (getD ws (stride * p) 0)
-      → SoFar type stride least most modulus ws n (p + 1) (size + (getD ws (stride * p) 0 / 2 ^ 16 % 16 - least))
-  so-far-more {p} {size} k l there x =
-      record {
-        within = omega arith;
-        small = omega (arith, k .small);
-        each = λ j m. go j (side j p) m;
-        sized = λ s h. one-more s ws n h p size (rw (h .words-are) there) x (k .sized s h);
-      }
+  pub summed-all : {p bad counts : ℕ} → Summed k last p bad counts → last ≤ p → suc last ≡ k .packets
+      → (bad ≡ total (faultAt k) (k .packets)) × (counts ≡ total (countedAt k) (k .packets))
+  unfolding total
+  summed-all {p} i l e =
+      let z : p ≡ last = omega (arith, i .within) in
+      (i .bad-is ∙ rw (z, ← e), i .counts-is ∙ rw (z, ← e))
+
+  pub summed-small : {p bad counts : ℕ} → Summed k last p bad counts → (bad ≤ p + 1) × (counts ≤ 15 * p + 15)
+  summed-small {p} i = (
+    omega (arith, i .bad-is, total-most (faultAt k) 1 p (λ j l. fault-small k j), fault-small k last),
+    omega (arith, i .counts-is, total-most (countedAt k) 15 p (λ j l. omega arith)),
+  )
+
+-- the counts reach what the least of each comes to
+pub counts-reach : (k : Pass) → total (faultAt k) (k .packets) ≡ 0 → k .least * k .packets ≤ total (countedAt k) (k .packets)
+counts-reach k e =
+    omega (arith, counts-are k (k .packets) (λ p l. counts-enough k p (omega (arith, total-ge (faultAt k) (k .packets) p l))))
+
+-- what the sums say of the packets
+module _ (s : Shape) (k : Pass) (h : Shaped s (k .stride) (k .type) (k .least) (k .most) (k .modulus))
+    (small : (i : ℕ) → getD (k .words) i 0 < 2 ^ 32) where
+  kind-fits : k .type < 16
+  kind-fits = rw (h .type-is) at (s .type-fits)
+
+  pub some-fault : (total (faultAt k) (k .packets) ≡ 0 → ⊥) → 0 ≡ inOrder s (k .words) (k .packets)
+  some-fault bad = go (checkPackets s (k .words) (k .packets)) refl
     where
-      go : (j : ℕ) → Side j p → j < p + 1 → Numbers type least most modulus (getD ws 0 0) n j (getD ws (stride * j) 0)
-      go j (under b e) m = k .each j b
-      go j (over b e) m =
-          let q : p ≡ j = omega arith in
-          subst (λ (i : ℕ). Numbers type least most modulus (getD ws 0 0) n i (getD ws (stride * i) 0)) q x
+      clear : checkPackets s (k .words) (k .packets) ≡ pass → total (faultAt k) (k .packets) ≡ 0
+      clear e =
+          total-cong (faultAt k) (λ p. 0) (k .packets)
+          (λ p l. numbers-clear (h .ids-are) kind-fits (k .least) (k .most) (getD (k .words) 0 0) (k .packets) p (wordAt k p) (small 0) (small (k .stride * p)) (passes-numbers s (k .words) (k .packets) h e p l))
+          ∙ total-const 0 (k .packets)
+          ∙ omega arith
+
+      go : (v : Verdict) → checkPackets s (k .words) (k .packets) ≡ v → 0 ≡ orNone (v ▷ gives (suc (length (payload s (k .words) (k .packets)))))
+      go (gives u) e = absurd (bad (clear e))
+      go (refused number place) e = refl
+
+  pub no-fault : Inside (k .stride) (k .packets) (k .words) → total (faultAt k) (k .packets) ≡ 0
+      → total (countedAt k) (k .packets) - k .least * k .packets + 1 ≡ inOrder s (k .words) (k .packets)
+  no-fault inside none =
+      rw (numbers-pass s (k .words) (k .packets) h each)
+      (omega (
+        arith,
+        counts-are k (k .packets) (λ p l. each p l .enough),
+        size-to s (k .words) (k .packets) h inside (λ p l. (each p l .enough, each p l .fitting)) (k .packets) (omega arith),
+      ))
+    where
+      each : (p : ℕ) → p < k .packets → Numbers (k .type) (k .least) (k .most) (k .modulus) (getD (k .words) 0 0) (k .packets) p (wordAt k p)
+      each p l =
+          clear-numbers (h .ids-are) kind-fits (k .least) (k .most) (getD (k .words) 0 0) (k .packets) p (wordAt k p) (small 0) (small (k .stride * p))
+          (omega (arith, total-ge (faultAt k) (k .packets) p l))
+
+  -- of the only packet
+  pub alone : Inside (k .stride) (k .packets) (k .words) → k .packets ≡ 1 → faultAt k 0 ≡ 0
+      → getD (k .words) 0 0 / 2 ^ 16 % 16 - k .least + 1 ≡ inOrder s (k .words) (k .packets)
+  alone inside e z =
+      let c : total (countedAt k) (k .packets) ≡ getD (k .words) 0 0 / 2 ^ 16 % 16 = total-one (countedAt k) e ∙ count-first k in
+      let m : k .least * k .packets ≡ k .least = rw e (mul-one (k .least)) in
+      rw (← c, ← m) (no-fault inside (total-one (faultAt k) e ∙ z))

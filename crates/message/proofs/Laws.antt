@@ -65,9 +65,6 @@ found-fits {stride} {n} f h {i} e =
 pub begins : {stride n : ℕ} {ws : List ℕ} → Inside stride n ws → 0 < n → 0 < length ws
 begins h k = omega (arith, here 0 h k .index)
 
-pub lt-irrefl : {a b : ℕ} → a < b → b ≤ a → ⊥
-lt-irrefl h k = omega arith
-
 pub last-of-four : (o : ℕ) → o < 4 → (o ≡ 0 → ⊥) → (o ≡ 1 → ⊥) → (o ≡ 2 → ⊥) → o ≡ 3
 last-of-four zero h a b c = absurd (a refl)
 last-of-four (suc zero) h a b c = absurd (b refl)

@@ -5,11 +5,11 @@ use Prim.Native.Nat.{ℕ, _+_, _*_, _/_, _≤_, _<_}
 use native.Mathlib.Omega.{arith}
 use lib.ListN.{length, getD}
 use Rattle.ump.specs.Packet.{sysex8, countAt, sizeAt, byteAt, payload}
-use Rattle.ump.specs.Check.{payloadOf, Valid}
+use Rattle.ump.specs.Check.{payloadOf}
 use Rattle.ump.specs.Setters.{packetOf, byteIn}
 use Rattle.ump.proofs.Sizes.{size-small}
 use Rattle.ump.proofs.Setting.{packetOf-below, byteIn-below, getD-payload}
-use Rattle.message.specs.Scan.{Counted, sizeTo, Found}
+use Rattle.message.specs.Scan.{Sized, Found}
 use Rattle.message.proofs.Laws.{Here, here}
 use Rattle.message.proofs.Checked.{shaped8, Taken, taken-inside, taken-counted}
 use Rattle.message.proofs.Sizes.{size-to, found-place}
@@ -24,17 +24,15 @@ pub record Standing (ws : List ℕ) (len i p b : ℕ) : Type 0 where
   pub reads : getD (payloadOf sysex8 ws len) i 0 ≡ byteAt sysex8 ws p b
 
 module _ {ws : List ℕ} {len : ℕ} where
-  pub wide-counted : Valid sysex8 ws len → Counted 4 (len / 4) 1 15 ws
-  wide-counted v p l = let k = taken-counted sysex8 shaped8 ws len v p l in (k .0, omega (arith, k .1))
+  pub sized : {size : ℕ} → Taken sysex8 ws len size → Sized ws (len / 4) size
+  sized m =
+      let inside = taken-inside sysex8 shaped8 ws len (m .valid) in
+      let counted = taken-counted sysex8 shaped8 ws len (m .valid) in
+      record { inside = inside; counted = counted; size-is = rw (size-to sysex8 ws (len / 4) shaped8 inside counted (len / 4) (omega arith)) (m .sized) }
 
   module _ {size i : ℕ} (m : Taken sysex8 ws len size) (h : i < size) where
     inside-payload : i < length (payload sysex8 ws (len / 4))
     inside-payload = rw (m .sized) at h
-
-    pub index-below : i < sizeTo 4 1 ws (len / 4)
-    index-below =
-        rw (size-to sysex8 ws (len / 4) shaped8 (taken-inside sysex8 shaped8 ws len (m .valid)) (taken-counted sysex8 shaped8 ws len (m .valid)) (len / 4) (omega arith))
-        inside-payload
 
     pub standing : {p b : ℕ} → Found 4 1 ws (len / 4) i p b → Standing ws len i p b
     standing {p} {b} f =

@@ -1,7 +1,9 @@
 -- Payload sizes by the numbers of a shape, and the search for a byte. Assumes nothing.
-use mathlib.Core.Path.{_≡_, refl, ap, ap₂, _∙_, subst}
+use mathlib.Core.Bool.{true, false}
+use mathlib.Core.Path.{_≡_, refl, sym, ap, ap₂, _∙_, subst}
 use mathlib.Core.List.{List}
-use Prim.Native.Nat.{ℕ, zero, suc, _+_, _-_, _*_, _≤_, _<_}
+use Prim.Native.Nat.{ℕ, zero, suc, _+_, _-_, _*_, _/_, _%_, _≤_, _<_}
+use native.Mathlib.Nat.{mul-suc, mul-le-mul-left}
 use native.Mathlib.Numerals.{add-one}
 use native.Mathlib.Omega.{arith}
 use lib.Dec.{ltb}
@@ -11,10 +13,10 @@ use Rattle.ump.specs.Word.{nibble}
 use Rattle.ump.specs.Packet.{Shape, countAt, sizeAt, payloadAt, joined, payload}
 use Rattle.ump.specs.Edits.{total}
 use Rattle.ump.specs.Setters.{packetOf, byteIn}
-use Rattle.ump.proofs.First.{Passed, passed-zero, passed-one, passed-here, first-cong, first-le, Side, under, over, side}
+use Rattle.ump.proofs.First.{first-is, Passed, passed-zero, passed-one, passed-here, first-cong, first-le, Side, under, over, side}
 use Rattle.ump.proofs.Sizes.{size-of-count}
 use Rattle.ump.proofs.Bytes.{length-payloadAt}
-use Rattle.message.specs.Scan.{Inside, Counted, sizeTo, Found, Shaped}
+use Rattle.message.specs.Scan.{Inside, Counted, sizeTo, Sized, Found, Shaped}
 use Rattle.message.proofs.Laws.{here}
 
 -- ---- the search for payload byte i
@@ -61,6 +63,70 @@ module _ {stride least : ℕ} {ws : List ℕ} {n i : ℕ} where
         packet-is = passed-here (k .passed) l (lt-ltb i (sizeTo stride least ws (suc p)) (omega (arith, size-more stride least ws p, k .left)));
         byte-is = k .left;
       }
+
+-- ---- where every packet but the last is full
+
+pub total-most : (f : ℕ → ℕ) (k n : ℕ) → ((p : ℕ) → p < n → f p ≤ k) → total f n ≤ k * n
+unfolding total
+total-most f k zero h = omega arith
+total-most f k (suc n) h = omega (arith, total-most f k n (λ p l. h p (omega arith)), h n (omega arith), mul-suc k n)
+
+-- a sum is as large as it can be only if each of its parts is
+total-full : (f : ℕ → ℕ) (k n : ℕ) → ((p : ℕ) → p < n → f p ≤ k) → total f n ≡ k * n → (p : ℕ) → p ≤ n → total f p ≡ k * p
+unfolding total
+total-full f k zero h e p l = let z : p ≡ 0 = omega arith in rw z e
+total-full f k (suc n) h e p l = go (side p (suc n)) (total-full f k n (λ q m. h q (omega arith)))
+  where
+    go : Side p (suc n) → (total f n ≡ k * n → (q : ℕ) → q ≤ n → total f q ≡ k * q) → total f p ≡ k * p
+    go (under m z) rest = rest (omega (arith, mul-suc k n, h n (omega arith), total-most f k n (λ q m. h q (omega arith)))) p (omega arith)
+    go (over m z) rest = let q : p ≡ suc n = omega arith in rw q e
+
+-- the size says so, and then payload byte room * p + b is byte b of packet p
+module _ (stride least room : ℕ) (ws : List ℕ) (last : ℕ) (counted : Counted stride (suc last) least (room + least) ws)
+    (full : sizeTo stride least ws (suc last) ≡ room * last + (nibble (getD ws (stride * last) 0) 3 - least)) where
+  room-enough : (p : ℕ) → p < suc last → nibble (getD ws (stride * p) 0) 3 - least ≤ room
+  room-enough p l = omega (arith, counted p l .1)
+
+  size-full : (p : ℕ) → p ≤ last → sizeTo stride least ws p ≡ room * p
+  unfolding sizeTo total
+  size-full p l = total-full (λ q. nibble (getD ws (stride * q) 0) 3 - least) room last (λ q m. room-enough q (omega arith)) (omega (arith, full)) p l
+
+  found-full : {i p b : ℕ} → i < sizeTo stride least ws (suc last) → i ≡ room * p + b → b < room → Found stride least ws (suc last) i p b
+  found-full {i} {p} {b} h e k =
+      record {
+        packet-is = sym (first-is (λ q. ltb i (sizeTo stride least ws (suc q))) (suc last) p (omega (arith, below)) passed (λ l. reached (side p last)));
+        byte-is = omega (arith, size-full p below);
+      }
+    where
+      below : p ≤ last
+      below = go (side last p)
+        where
+          go : Side last p → p ≤ last
+          go (under l z) = absurd (omega (arith, mul-le-mul-left room l, mul-suc room last, room-enough last (omega arith), full))
+          go (over l z) = l
+
+      passed : (q : ℕ) → q < p → ltb i (sizeTo stride least ws (suc q)) ≡ false
+      passed q l = le-ltb i _ (omega (arith, size-full (suc q) (omega (arith, below)), mul-le-mul-left room l))
+
+      reached : Side p last → ltb i (sizeTo stride least ws (suc p)) ≡ true
+      reached (under l z) = lt-ltb i _ (omega (arith, size-full (suc p) l, mul-suc room p))
+      reached (over l z) =
+          let q : last ≡ p = omega (arith, below) in
+          lt-ltb i _ (rw q at h)
+
+-- of a SysEx8 message
+module _ {ws : List ℕ} {n size i : ℕ} (m : Sized ws n size) (h : i < size) where
+  pub below-size : i < sizeTo 4 1 ws n
+  below-size = rw (m .size-is) at h
+
+  pub some-packet : 0 < n
+  some-packet = seek-below below-size (seek-start {i = i})
+
+  pub at-once : size ≡ 13 * (n - 1) + (nibble (getD ws (4 * (n - 1)) 0) 3 - 1) → Found 4 1 ws n i (i / 13) (i % 13)
+  at-once e =
+      let q : n ≡ suc (n - 1) = omega (arith, some-packet) in
+      subst (λ (k : ℕ). Found 4 1 ws k i (i / 13) (i % 13)) (sym q)
+      (found-full 4 1 13 ws (n - 1) (λ p l. m .counted p (omega arith)) (rw (← q) (sym (m .size-is) ∙ e)) (rw (← q) below-size) (omega arith) (omega arith))
 
 -- ---- for a shape, these are the sizes of its payload
 

@@ -1,3 +1,4 @@
--- What the answers of this crate mean, and what the steps of the check answer.
+-- What the answers of this crate mean, what the steps of the check answer, and what copying a payload leaves.
 pub mod Scan
 pub mod Meaning
+pub mod Copying

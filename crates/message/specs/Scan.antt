@@ -5,9 +5,10 @@ use mathlib.Core.Bool.{Bool, not, cond, _||_}
 use mathlib.Core.List.{List}
 use Prim.Native.Nat.{ℕ, suc, _+_, _-_, _*_, _/_, _%_, _^_, _≤_, _<_}
 use lib.Dec.{eqb, ltb}
+use lib.Bits.{bitAnd}
 use lib.ListN.{length, getD}
-use Rattle.refusal.specs.Answer.{Answer, gives, refused, pass, _▷_, guard}
-use Rattle.refusal.specs.Number.{numberOf}
+use Rattle.refusal.specs.Answer.{Answer, gives, refused, Verdict, pass, _▷_}
+use Rattle.refusal.specs.declared.Fault.{Fault}
 use Rattle.refusal.specs.Meaning.{faultOf}
 use Rattle.ump.specs.Word.{nibble}
 use Rattle.ump.specs.Packet.{Shape, payload}
@@ -16,9 +17,6 @@ use Rattle.ump.specs.Check.{first, check, checkPackets, payloadOf}
 use Rattle.ump.specs.Edits.{total}
 use Rattle.ump.specs.Single.{withGroup}
 use Rattle.ump.specs.Setters.{withId}
-use Rattle.message.specs.declared.scan.Bounds as bounds
-use Rattle.message.specs.declared.scan.Total as totals
-use Rattle.message.specs.declared.scan.Scan as scan
 
 -- some packets stand inside the words, which are no more than a message may have
 pub record Inside (stride n : ℕ) (words : List ℕ) : Type 0 where
@@ -38,26 +36,18 @@ outOfStep stride words n p = not (eqb (nibble (getD words (stride * p) 0) 2) (st
 abbrev pub countOut : ℕ → List ℕ → ℕ → ℕ → ℕ → Bool
 countOut stride words least most p = ltb (nibble (getD words (stride * p) 0) 3) least || ltb most (nibble (getD words (stride * p) 0) 3)
 
--- Long, Length, Short, Ragged; else the number of packets
-unfoldable pub boundsOf : ℕ → ℕ → ℕ → Answer ℕ
-boundsOf lent len stride =
-    guard (ltb 16384 lent) 1 0
-    ▷ guard (ltb lent len) 2 0
-    ▷ guard (ltb len stride) 3 0
-    ▷ guard (not (eqb (len % stride) 0)) 4 0
-    ▷ gives (len / stride)
+-- a message of n packets, as far as the numbers go: Long, Length, Short and Ragged do not refuse it
+pub record Framed (lent len stride n : ℕ) : Type 0 where
+  pub few : lent ≤ 16384
+  pub inside : len ≤ lent
+  pub long-enough : stride ≤ len
+  pub ragged-not : len % stride ≡ 0
+  pub packets : n ≡ len / stride
 
-abbrev pub boundsMeaning : bounds.Bounds → Answer ℕ
-boundsMeaning (bounds.the-variants.Packets n) = gives n
-boundsMeaning (bounds.the-variants.Refused refusal) = refused (numberOf refusal) 0
-
-abbrev pub scanMeaning : scan.Scan → Answer ℕ
-scanMeaning (scan.the-variants.Size size) = gives size
-scanMeaning (scan.the-variants.Refused fault) = faultOf fault
-
--- the check, answering the payload size
-abbrev pub scanOf : Shape → List ℕ → ℕ → Answer ℕ
-scanOf shape words len = check shape words len ▷ gives (length (payloadOf shape words len))
+-- n is how many packets it has; 0 where one of them refuses it
+pub record Packets (lent len stride n : ℕ) : Type 0 where
+  pub some : (n ≡ 0 → ⊥) → Framed lent len stride n
+  pub none : n ≡ 0 → (m : ℕ) → Framed lent len stride m → ⊥
 
 -- a stream id is compared modulo 256 where a shape has one, and modulo 1 where it has none
 pub data IdModulus : ℕ → ℕ → Type 0 where
@@ -72,10 +62,29 @@ pub record Shaped (shape : Shape) (stride type least most modulus : ℕ) : Type 
   pub most-is : shape .room + shape .bias ≡ most
   pub ids-are : IdModulus (shape .ids) modulus
 
--- what a total says of n packets: they pass, and this is the size of their payload; or they do not pass
-abbrev pub InOrder : Shape → List ℕ → ℕ → totals.Total → Type 0
-InOrder shape words n (totals.the-variants.Size size) = (checkPackets shape words n ≡ pass) × (size ≡ length (payload shape words n))
-InOrder shape words n totals.the-variants.Fault = checkPackets shape words n ≡ pass → ⊥
+-- what a mask keeps of a first word is not the wanted number, or its count is out of range
+abbrev pub faulty : ℕ → ℕ → ℕ → ℕ → ℕ → Bool
+faulty mask wanted least most x = not (eqb (bitAnd x mask) wanted) || (ltb (nibble x 3) least || ltb most (nibble x 3))
+
+-- 1 where a test holds, else 0
+abbrev pub one : Bool → ℕ
+one test = cond test 1 0
+
+-- the number that an answer gives; 0 where it refuses
+abbrev pub orNone : Answer ℕ → ℕ
+orNone (gives n) = n
+orNone (refused number place) = 0
+
+-- one more than the payload size of n packets that pass, and of a message that does; 0 where they do not
+abbrev pub inOrder : Shape → List ℕ → ℕ → ℕ
+inOrder shape words n = orNone (checkPackets shape words n ▷ gives (suc (length (payload shape words n))))
+
+abbrev pub sizeFound : Shape → List ℕ → ℕ → ℕ
+sizeFound shape words len = orNone (check shape words len ▷ gives (suc (length (payloadOf shape words len))))
+
+-- why a verdict is not to pass
+abbrev pub Explains : Verdict → Fault → Type 0
+Explains verdict fault = (verdict ≡ pass → ⊥) → faultOf fault ≡ verdict
 
 -- ---- payload sizes by the numbers of a shape
 
@@ -86,6 +95,12 @@ Counted stride n least most words = (p : ℕ) → p < n → (least ≤ nibble (g
 -- the payload size of n packets
 unfoldable pub sizeTo : ℕ → ℕ → List ℕ → ℕ → ℕ
 sizeTo stride least words n = total (λ p. nibble (getD words (stride * p) 0) 3 - least) n
+
+-- the packets of a SysEx8 message of a size
+pub record Sized (words : List ℕ) (n size : ℕ) : Type 0 where
+  pub inside : Inside 4 n words
+  pub counted : Counted 4 n 1 14 words
+  pub size-is : size ≡ sizeTo 4 1 words n
 
 -- byte b of packet p, of n, is payload byte i
 pub record Found (stride least : ℕ) (words : List ℕ) (n i p b : ℕ) : Type 0 where

@@ -1,76 +1,33 @@
 // The check of a message of any shape, as loops over the first words of its packets. A promise here holds of every shape whose
 // numbers are the ones given: words in a packet, message type, least and most count, octets of stream id.
 ghost use mathlib.Core.Path.{_≡_};
-ghost use Prim.Native.Nat.{_+_, _*_, _/_, _%_, _<_};
-ghost use lib.ListN.{length};
+ghost use Prim.Native.Nat.{_/_, _≤_, _<_};
 ghost use Rattle.ump.specs.Packet.{Shape};
 ghost use Rattle.ump.specs.Packing.{statusFor};
-ghost use Rattle.ump.specs.Check.{first, checkPackets, statusNumber};
+ghost use Rattle.ump.specs.Check.{first, statusNumber, check, checkPackets};
 ghost use Rattle.refusal.specs.Number.{numberOf};
-ghost use Rattle.message.specs.Scan.{Inside, otherAt, outOfStep, countOut, boundsOf, boundsMeaning, scanMeaning, scanOf, Shaped, InOrder};
-ghost use Rattle.refusal.specs.Answer.{pass};
-ghost use Rattle.refusal.specs.Meaning.{faultOf};
+ghost use Rattle.message.specs.Scan.{Inside, Packets, otherAt, outOfStep, countOut, faulty, one, Shaped, inOrder, Explains};
 use refusal::Fault;
 use refusal::Refusal;
 
-// How many packets a message has, or why it has none.
-pub(crate) enum Bounds {
-    Packets(usize),
-    Refused(Refusal),
-}
-
-// The payload size of packets that are all in order.
-pub(crate) enum Total {
-    Size(usize),
-    Fault,
-}
-
-// The payload size of a message, or its refusal.
-pub(crate) enum Scan {
-    Size(usize),
-    Refused(Fault),
-}
-
-// How many whole packets of so many words a length has. The four words of SysEx8 need no division.
-fn whole_packets(length: usize, stride: usize) -> usize
+// How many packets a message has; none where Long, Length, Short or Ragged refuses it.
+pub(crate) fn packets_of(lent: usize, length: usize, stride: usize) -> usize
     requires { ⌜ 0 < stride ⌝ }
-    ensures { λ r. ⌜ r ≡ length / stride ⌝ }
-{
-    if stride == 4 {
-        return length / 4;
-    }
-    length / stride
-}
-
-// How many words are left over behind whole packets.
-fn left_over(length: usize, stride: usize) -> usize
-    requires { ⌜ 0 < stride ⌝ }
-    ensures { λ r. ⌜ r ≡ length % stride ⌝ }
-{
-    if stride == 4 {
-        return length % 4;
-    }
-    length % stride
-}
-
-// Long, Length, Short, Ragged.
-fn count_packets(lent: usize, length: usize, stride: usize) -> Bounds
-    requires { ⌜ 0 < stride ⌝ }
-    ensures { λ r. ⌜ boundsMeaning r ≡ boundsOf lent length stride ⌝ }
+    ensures { λ r. ⌜ Packets lent length stride r ⌝ }
 {
     if lent > 16384 {
-        return Bounds::Refused(Refusal::Long);
+        return 0;
     }
     if length > lent {
-        return Bounds::Refused(Refusal::Length);
+        return 0;
     }
     if length < stride {
-        return Bounds::Refused(Refusal::Short);
+        return 0;
     }
-    if left_over(length, stride) != 0 {
-        return Bounds::Refused(Refusal::Ragged);
+    if length % stride != 0 {
+        return 0;
     }
-    Bounds::Packets(whole_packets(length, stride))
+    length / stride
 }
 
 // The first packet whose field of the first word is not `value`; their number if there is none.
@@ -185,7 +142,7 @@ fn find_fault(
     modulus: u32,
 ) -> Fault
     requires { ⌜ (Inside stride packets (now words)) × (0 < packets) × (0 < modulus) ⌝ }
-    ensures { λ r. ⌜ ((shape : Shape) → Shaped shape stride kind least most modulus → (checkPackets shape (now (words .entry)) packets ≡ pass → ⊥) → faultOf r ≡ checkPackets shape (now (words .entry)) packets) ⌝ }
+    ensures { λ r. ⌜ ((s : Shape) → Shaped s stride kind least most modulus → Explains (checkPackets s (now (words .entry)) packets) r) ⌝ }
 {
     let foreign = first_other(words, stride, packets, 28, 16, kind);
     if foreign < packets {
@@ -222,19 +179,67 @@ fn find_fault(
     }
 }
 
-// The stream id of a first word, by what it is compared modulo: the 256 of SysEx8 needs no division.
-fn id_of(word: u32, modulus: u32) -> u32
-    requires { ⌜ 0 < modulus ⌝ }
-    ensures { λ r. ⌜ r ≡ word / 256 % modulus ⌝ }
+// Why a message is refused, by the packets that its length makes: Long, Length, Short, Ragged; then the fault of its packets.
+pub(crate) fn why(
+    words: &[u32],
+    length: usize,
+    packets: usize,
+    stride: usize,
+    kind: u32,
+    least: u32,
+    most: u32,
+    modulus: u32,
+) -> Fault
+    requires { ⌜ (0 < stride) × (packets ≡ length / stride) × (0 < modulus) ⌝ }
+    ensures { λ r. ⌜ ((s : Shape) → Shaped s stride kind least most modulus → Explains (check s (now (words .entry)) length) r) ⌝ }
 {
-    if modulus == 256 {
-        return word / 256 % 256;
+    if words.len() > 16384 {
+        return Fault {
+            refusal: Refusal::Long,
+            place: 0,
+        };
     }
-    word / 256 % modulus
+    if length > words.len() {
+        return Fault {
+            refusal: Refusal::Length,
+            place: 0,
+        };
+    }
+    if length < stride {
+        return Fault {
+            refusal: Refusal::Short,
+            place: 0,
+        };
+    }
+    if stride * packets != length {
+        return Fault {
+            refusal: Refusal::Ragged,
+            place: 0,
+        };
+    }
+    find_fault(words, stride, packets, kind, least, most, modulus)
 }
 
-// The payload size of packets that are all in order, in one pass.
-fn in_order(
+// Whether a first word is at fault: 1 if what the mask keeps of it is not the wanted number, or its count is out of range; else 0.
+fn at_fault(word: u32, mask: u32, wanted: u32, least: u32, most: u32) -> u32
+    ensures { λ r. ⌜ r ≡ one (faulty mask wanted least most word) ⌝ }
+{
+    if word & mask != wanted {
+        return 1;
+    }
+    let count = word / 0x1_0000 % 16;
+    if count < least {
+        return 1;
+    }
+    if most < count {
+        return 1;
+    }
+    0
+}
+
+// One more than the payload size of packets that are all in order, else 0. One pass that adds up faults and counts, with no way
+// out of its loop; the first packet and the last, which have another status, are looked at apart.
+pub(crate) fn in_order(
     words: &[u32],
     stride: usize,
     packets: usize,
@@ -242,69 +247,36 @@ fn in_order(
     least: u32,
     most: u32,
     modulus: u32,
-) -> Total
-    requires { ⌜ (Inside stride packets (now words)) × (0 < packets) × (kind < 16) × (0 < modulus) ⌝ }
-    ensures { λ r. ⌜ ((shape : Shape) → Shaped shape stride kind least most modulus → InOrder shape (now (words .entry)) packets r) ⌝ }
+) -> usize
+    requires { ⌜ (Inside stride packets (now words)) × (0 < packets) × (kind < 16) × (0 < modulus) × (modulus ≤ 256) ⌝ }
+    ensures { λ r. ⌜ ((shape : Shape) → Shaped shape stride kind least most modulus → r ≡ inOrder shape (now (words .entry)) packets) ⌝ }
 {
     let first = words[0];
-    let head = kind * 16 + first / 0x100_0000 % 16;
-    let id = id_of(first, modulus);
-    let mut size: usize = 0;
-    let mut packet = 0;
-    while packet < packets {
+    let mask = 0xFFF0_0000 + (modulus - 1) * 0x100;
+    let base = kind * 0x1000_0000
+        + first / 0x100_0000 % 16 * 0x100_0000
+        + (first & mask) % 0x1_0000;
+    let start = base + status_for(packets, 0) * 0x10_0000;
+    if at_fault(first, mask, start, least, most) != 0 {
+        return 0;
+    }
+    let mut counts = first / 0x1_0000 % 16;
+    let last = packets - 1;
+    if last == 0 {
+        return (counts - least) as usize + 1;
+    }
+    let end = words[stride * last];
+    let mut bad = at_fault(end, mask, base + 0x30_0000, least, most);
+    counts += end / 0x1_0000 % 16;
+    let mut packet = 1;
+    while packet < last {
         let word = words[stride * packet];
-        if word / 0x100_0000 != head {
-            return Total::Fault;
-        }
-        if word / 0x10_0000 % 16 != status_for(packets, packet) {
-            return Total::Fault;
-        }
-        if id_of(word, modulus) != id {
-            return Total::Fault;
-        }
-        let count = word / 0x1_0000 % 16;
-        if count < least {
-            return Total::Fault;
-        }
-        if most < count {
-            return Total::Fault;
-        }
-        size += (count - least) as usize;
+        bad += at_fault(word, mask, base + 0x20_0000, least, most);
+        counts += word / 0x1_0000 % 16;
         packet += 1;
     }
-    Total::Size(size)
-}
-
-// The payload size of a message of this shape, or its refusal.
-pub(crate) fn scan_message(
-    words: &[u32],
-    length: usize,
-    stride: usize,
-    kind: u32,
-    least: u32,
-    most: u32,
-    modulus: u32,
-) -> Scan
-    requires { ⌜ (0 < stride) × (kind < 16) × (0 < modulus) ⌝ }
-    ensures { λ r. ⌜ ((shape : Shape) → Shaped shape stride kind least most modulus → scanMeaning r ≡ scanOf shape (now (words .entry)) length) ⌝ }
-{
-    let bounds = count_packets(words.len(), length, stride);
-    match bounds {
-        Bounds::Refused(refusal) => Scan::Refused(Fault { refusal, place: 0 }),
-        Bounds::Packets(packets) => {
-            let total = in_order(words, stride, packets, kind, least, most, modulus);
-            match total {
-                Total::Size(size) => Scan::Size(size),
-                Total::Fault => Scan::Refused(find_fault(
-                    words,
-                    stride,
-                    packets,
-                    kind,
-                    least,
-                    most,
-                    modulus,
-                )),
-            }
-        }
+    if bad != 0 {
+        return 0;
     }
+    counts as usize - least as usize * packets + 1
 }

@@ -2,10 +2,12 @@
 ghost use mathlib.Core.Path.{_≡_};
 ghost use Rattle.ump.specs.Packet.{sysex8};
 ghost use Rattle.refusal.specs.Meaning.{storedMeaning, byteMeaning};
-ghost use Rattle.ump.specs.Check.{checked};
+ghost use Rattle.ump.specs.Check.{check, checked};
 ghost use Rattle.ump.specs.Setters.{getByte, copyPayload, setGroup, setId, setByte};
 ghost use Rattle.message.specs.Meaning.{checkMeaning8, copiedMeaning};
-use crate::scan::Scan;
+ghost use Rattle.message.specs.Scan.{sizeFound, Explains};
+use crate::scan::in_order;
+use crate::scan::packets_of;
 use refusal::ByteRead;
 use refusal::Fault;
 use refusal::Refusal;
@@ -25,23 +27,39 @@ pub enum Checked {
     Refused(Fault),
 }
 
+// One more than the payload size of the message; 0 if it is refused.
+fn size_found(words: &[u32], length: usize) -> usize
+    ensures { λ r. ⌜ r ≡ sizeFound sysex8 (now (words .entry)) length ⌝ }
+{
+    let packets = packets_of(words.len(), length, 4);
+    if packets == 0 {
+        return 0;
+    }
+    in_order(words, 4, packets, 5, 1, 14, 256)
+}
+
+// Why the message is refused.
+fn why(words: &[u32], length: usize) -> Fault
+    ensures { λ r. ⌜ Explains (check sysex8 (now (words .entry)) length) r ⌝ }
+{
+    crate::scan::why(words, length, length / 4, 4, 5, 1, 14, 256)
+}
+
 // Checks the message in the first `length` of the words lent: refusals 1 to 12, each over all packets before the next.
 pub fn check(words: &[u32], length: usize) -> Checked
     ensures { λ r. ⌜ checkMeaning8 r ≡ checked sysex8 (now (words .entry)) length ⌝ }
 {
-    let scan = crate::scan::scan_message(words, length, 4, 5, 1, 14, 256);
-    match scan {
-        Scan::Refused(fault) => Checked::Refused(fault),
-        Scan::Size(size) => {
-            let first = words[0];
-            Checked::Message(Summary {
-                group: (first / 0x100_0000 % 16) as u8,
-                id: (first / 256 % 256) as u8,
-                size,
-                words: length,
-            })
-        }
+    let found = size_found(words, length);
+    if found == 0 {
+        return Checked::Refused(why(words, length));
     }
+    let first = words[0];
+    Checked::Message(Summary {
+        group: (first / 0x100_0000 % 16) as u8,
+        id: (first / 256 % 256) as u8,
+        size: found - 1,
+        words: length,
+    })
 }
 
 // The answer of copying the payload: its size.
@@ -54,94 +72,86 @@ pub enum Copied {
 pub fn byte(words: &[u32], length: usize, index: usize) -> ByteRead
     ensures { λ r. ⌜ byteMeaning r ≡ getByte sysex8 (now (words .entry)) length index ⌝ }
 {
-    let checked = check(words, length);
-    match checked {
-        Checked::Refused(fault) => ByteRead::Refused(fault),
-        Checked::Message(message) => {
-            if message.size <= index {
-                return ByteRead::Refused(Fault {
-                    refusal: Refusal::Range,
-                    place: 0,
-                });
-            }
-            let place = crate::bytes::locate(words, 4, length / 4, 1, index);
-            ByteRead::Value(crate::bytes::byte_at(words, place.packet, place.byte))
-        }
+    let found = size_found(words, length);
+    if found == 0 {
+        return ByteRead::Refused(why(words, length));
     }
+    let size = found - 1;
+    if size <= index {
+        return ByteRead::Refused(Fault {
+            refusal: Refusal::Range,
+            place: 0,
+        });
+    }
+    let place = crate::bytes::place_of(words, length / 4, size, index);
+    ByteRead::Value(crate::bytes::byte_at(words, place.packet, place.byte))
 }
 
 // Copies the payload to the bytes lent: the check's refusals, then Room where they are too few; bytes past it stay.
 pub fn payload(words: &[u32], length: usize, bytes: &mut [u8]) -> Copied
     ensures { λ r. ⌜ (copiedMeaning r, now (bytes .exit)) ≡ copyPayload sysex8 (now (words .entry)) length (now (bytes .entry)) ⌝ }
 {
-    let checked = check(words, length);
-    match checked {
-        Checked::Refused(fault) => Copied::Refused(fault),
-        Checked::Message(message) => {
-            let size = message.size;
-            if bytes.len() < size {
-                return Copied::Refused(Fault {
-                    refusal: Refusal::Room,
-                    place: 0,
-                });
-            }
-            crate::bytes::copy_packets(words, length / 4, bytes);
-            Copied::Size(size)
-        }
+    let found = size_found(words, length);
+    if found == 0 {
+        return Copied::Refused(why(words, length));
     }
+    let size = found - 1;
+    if bytes.len() < size {
+        return Copied::Refused(Fault {
+            refusal: Refusal::Room,
+            place: 0,
+        });
+    }
+    crate::bytes::copy_packets(words, length / 4, bytes);
+    Copied::Size(size)
 }
 
 // Sets the group of the message: the check's refusals, then Field.
 pub fn set_group(words: &mut [u32], length: usize, group: u8) -> Stored
     ensures { λ r. ⌜ (storedMeaning r, now (words .exit)) ≡ setGroup sysex8 (now (words .entry)) length group ⌝ }
 {
-    let checked = check(words, length);
-    match checked {
-        Checked::Refused(fault) => Stored::Refused(fault),
-        Checked::Message(_) => {
-            if group > 15 {
-                return Stored::Refused(Fault {
-                    refusal: Refusal::Field,
-                    place: 0,
-                });
-            }
-            crate::heads::set_heads(words, 4, length / 4, group, false);
-            Stored::Done
-        }
+    let found = size_found(words, length);
+    if found == 0 {
+        return Stored::Refused(why(words, length));
     }
+    if group > 15 {
+        return Stored::Refused(Fault {
+            refusal: Refusal::Field,
+            place: 0,
+        });
+    }
+    crate::heads::set_heads(words, 4, length / 4, group, false);
+    Stored::Done
 }
 
 // Sets the stream id of the message, octet 2 of each packet: the check's refusals.
 pub fn set_stream_id(words: &mut [u32], length: usize, id: u8) -> Stored
     ensures { λ r. ⌜ (storedMeaning r, now (words .exit)) ≡ setId (now (words .entry)) length id ⌝ }
 {
-    let checked = check(words, length);
-    match checked {
-        Checked::Refused(fault) => Stored::Refused(fault),
-        Checked::Message(_) => {
-            crate::heads::set_heads(words, 4, length / 4, id, true);
-            Stored::Done
-        }
+    let found = size_found(words, length);
+    if found == 0 {
+        return Stored::Refused(why(words, length));
     }
+    crate::heads::set_heads(words, 4, length / 4, id, true);
+    Stored::Done
 }
 
 // Sets payload byte `index` of the message: the check's refusals, then Range.
 pub fn set_byte(words: &mut [u32], length: usize, index: usize, value: u8) -> Stored
     ensures { λ r. ⌜ (storedMeaning r, now (words .exit)) ≡ setByte sysex8 (now (words .entry)) length index value ⌝ }
 {
-    let checked = check(words, length);
-    match checked {
-        Checked::Refused(fault) => Stored::Refused(fault),
-        Checked::Message(message) => {
-            if message.size <= index {
-                return Stored::Refused(Fault {
-                    refusal: Refusal::Range,
-                    place: 0,
-                });
-            }
-            let place = crate::bytes::locate(words, 4, length / 4, 1, index);
-            crate::bytes::store_byte(words, place.packet, place.byte, value);
-            Stored::Done
-        }
+    let found = size_found(words, length);
+    if found == 0 {
+        return Stored::Refused(why(words, length));
     }
+    let size = found - 1;
+    if size <= index {
+        return Stored::Refused(Fault {
+            refusal: Refusal::Range,
+            place: 0,
+        });
+    }
+    let place = crate::bytes::place_of(words, length / 4, size, index);
+    crate::bytes::store_byte(words, place.packet, place.byte, value);
+    Stored::Done
 }

@@ -1,4 +1,4 @@
--- `message::bytes::copy_packet`: byte after byte of the packet's payload. Assumes nothing.
+-- `message::bytes::copy_packet`: a full packet at once, else byte after byte of its payload. Assumes nothing.
 use borrow.Author.Needs.{needs}
 use mathlib.Core.Path.{_≡_, refl, sym, ap, _∙_}
 use Prim.Native.Nat.{ℕ, _≤_, _<_, _-_, _+_}
@@ -22,36 +22,41 @@ abbrev μ-loop : tie.MeasureT-loop
 -- the size that the code reads
 size-read : (c : tie.After-shared-slice-known2 Inv-loop μ-loop) → let d = c .before .before .before in
     sizeAt sysex8 (d .args .words .now) (d .args .packet) ≡ countAt sysex8 (d .args .words .now) (d .args .packet) - 1
-size-read c = let d = c .before .before .before in size-of-count sysex8 (countAt sysex8 (d .args .words .now) (d .args .packet)) (d .pre .3)
+size-read c = let d = c .before .before .before in size-of-count sysex8 (countAt sysex8 (d .args .words .now) (d .args .packet)) (d .pre .most)
+
+full : (c : tie.Then1 Inv-loop μ-loop) → let d = c .before .before .before .before in sizeAt sysex8 (d .args .words .now) (d .args .packet) ≡ 13
+full c = size-read (c .before) ∙ c .if1 .taken
 
 small-byte : (c : tie.In-loop Inv-loop μ-loop) → c .before .loop .byte < 13
-small-byte c = omega (arith, c .before .before .before .before .before .pre .3, c .loop-test .taken)
+small-byte c = omega (arith, c .before .before .before .before .before .before .pre .most, c .loop-test .taken)
 
-in-bytes : (c : tie.After-byte-at Inv-loop μ-loop) → let l = c .before .before in let d = l .before .before .before .before in
+in-bytes : (c : tie.After-byte-at Inv-loop μ-loop) → let l = c .before .before in let d = l .before .before .before .before .before in
     d .args .at + l .loop .byte < length (d .args .bytes .now)
-in-bytes c = let l = c .before .before in omega (arith, l .before .before .before .before .pre .4, size-read (l .before), c .before .loop-test .taken)
+in-bytes c = let l = c .before .before in omega (arith, l .before .before .before .before .before .pre .room, size-read (l .before .before), c .before .loop-test .taken)
 
 loop-again : tie.Need-loop-again Inv-loop μ-loop
 loop-again c =
     let l = c .before .before in
-    let s = l .before in
+    let s = l .before .before in
     let d = s .before .before .before in
     let w = d .args .words .now in
     let k : l .loop .byte < sizeAt sysex8 w (d .args .packet) = rw (size-read s) (c .before .loop-test .taken) in
-    let b : c .byte-at .result ≡ getD (payloadAt sysex8 w (d .args .packet)) (l .loop .byte) 0 = c .byte-at .ensures ∙ sym (getD-payloadAt sysex8 w (d .args .packet) (d .pre .0) (l .loop .byte) k) in (
+    let b : c .byte-at .result ≡ getD (payloadAt sysex8 w (d .args .packet)) (l .loop .byte) 0 = c .byte-at .ensures ∙ sym (getD-payloadAt sysex8 w (d .args .packet) (d .pre .there) (l .loop .byte) k) in (
       omega arith,
       length-set (l .loop .bytes) (d .args .at + l .loop .byte) (c .byte-at .result) ∙ l .loop .inv .1,
       rw (b, l .loop .inv .2, add-one)
           (paste-suc (d .args .bytes .now) (d .args .at) (payloadAt sysex8 w (d .args .packet)) (l .loop .byte) 0
-          (omega (arith, k, d .pre .4))
-          (rw (length-payloadAt sysex8 w (d .args .packet) (d .pre .0)) k)),
+          (omega (arith, k, d .pre .room))
+          (rw (length-payloadAt sysex8 w (d .args .packet) (d .pre .there)) k)),
     )
 
-returns : tie.Need-returns Inv-loop μ-loop
-returns c =
+returns-2 : tie.Need-returns-2 Inv-loop μ-loop
+returns-2 c =
     let l = c .before in
-    let e : l .loop .byte ≡ sizeAt sysex8 (l .before .before .before .before .args .words .now) (l .before .before .before .before .args .packet) = sym (size-read (l .before) ∙ omega (arith, l .loop .inv .0, c .loop-test .left)) in
-    (ap (λ (k : ℕ). l .before .before .before .before .args .at + k) (sym (size-read (l .before))), rw e at (l .loop .inv .2))
+    let s = l .before .before in
+    let d = s .before .before .before in
+    let e : l .loop .byte ≡ sizeAt sysex8 (d .args .words .now) (d .args .packet) = sym (size-read s ∙ omega (arith, l .loop .inv .0, c .loop-test .left)) in
+    (ap (λ (k : ℕ). d .args .at + k) (sym (size-read s)), rw e at (l .loop .inv .2))
 
 pub copy-packet-spec : {M : Type 1} → statement M
 copy-packet-spec =
@@ -62,15 +67,19 @@ copy-packet-spec =
     (λ c. search needs)
     (λ c. search needs)
     (λ c. search needs)
-    (λ c. c .before .before .before .pre .2)
+    (λ c. c .before .before .before .pre .enough)
     (λ c. search needs)
-    (λ c. let d = c .before .before .before in (omega arith, refl, paste-zero (d .args .bytes .now) (d .args .at) (payloadAt sysex8 (d .args .words .now) (d .args .packet))))
-    (λ c κs. let d = c .before .before .before .before .before in (d .pre .0, d .pre .1, small-byte c))
+    (λ c κs. (c .before .before .before .before .before .pre, full (c .before)))
+    (λ c. let t = c .before .before .before .before in omega (arith, t .before .before .before .before .pre .room, full t))
+    (λ c. search needs)
+    (λ c. let f = c .before .before in (ap (λ (k : ℕ). f .before .before .before .before .before .before .args .at + k) (sym (full (f .before .before))), f .copy-full .ensures))
+    (λ c. let d = c .before .before .before .before in (omega arith, refl, paste-zero (d .args .bytes .now) (d .args .at) (payloadAt sysex8 (d .args .words .now) (d .args .packet))))
+    (λ c κs. let d = c .before .before .before .before .before .before in (d .pre .there, d .pre .few, small-byte c))
     (λ c. omega (arith, in-bytes c))
     (λ c. omega (arith, in-bytes c, c .before .before .loop .inv .1))
     (λ c. omega (arith, small-byte (c .before)))
     (λ c. omega (arith, c .before .loop-test .taken))
     loop-again
-    (λ c. let d = c .before .before .before .before .before in omega (arith, d .pre .4, size-read (c .before .before)))
+    (λ c. let s = c .before .before .before in omega (arith, s .before .before .before .pre .room, size-read s))
     (λ c. c .before .loop .inv .1)
-    returns)
+    returns-2)

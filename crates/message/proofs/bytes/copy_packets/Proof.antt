@@ -59,7 +59,7 @@ copy-packets-spec =
     Inv-loop
     μ-loop
     (λ c. (omega arith, rw (copy-none sysex8 (c .before .before .args .words .now)), refl, rw (copy-none sysex8 (c .before .before .args .words .now))))
-    (λ c κs. let d = c .before .before .before .before .before in let k = d .pre .1 _ (c .before .loop-test .taken) in (at-packet (c .before) .there, omega (arith, at-packet (c .before) .few), k .0, k .1, room (c .before)))
+    (λ c κs. let d = c .before .before .before .before .before in let k = d .pre .1 _ (c .before .loop-test .taken) in record { there = at-packet (c .before) .there; few = omega (arith, at-packet (c .before) .few); enough = k .0; most = k .1; room = room (c .before) })
     (λ c. omega (arith, at-packet (c .before .before .before .before) .number))
     (λ c. omega (arith, c .before .before .before .before .loop-test .taken))
     loop-again

@@ -1,31 +1,30 @@
 -- `message::sysex8::set_byte`: the check, then Range, then one store where the byte stands. Assumes nothing.
 use borrow.Author.Needs.{needs}
-use mathlib.Core.Path.{sym, ap, _∙_}
+use mathlib.Core.Path.{ap}
+use Prim.Native.Nat.{_-_}
 use borrow.Author.Tests.{le-leb, lt-leb}
 use Rattle.refusal.specs.Answer.{pass}
 use Rattle.ump.specs.Packet.{sysex8}
 use Rattle.ump.specs.Setters.{setByte}
-use Rattle.message.specs.Meaning.{checkMeaning8}
-use Rattle.message.proofs.Checked.{shaped8, Taken, taken, not-taken, taken-inside}
-use Rattle.message.proofs.Places.{Standing, standing, wide-counted, index-below}
+use Rattle.message.proofs.Checked.{Taken, found-none, found-taken}
+use Rattle.message.proofs.Places.{Standing, sized, standing}
 use Rattle.message.proofs.sysex8.set_byte.Statement.{statement}
 use Rattle.message.proofs.sysex8.set_byte.Tie as tie
 
-message : (c : tie.After-checked2) → let d = c .before .before .before .before .before in
-    Taken sysex8 (d .args .words .now) (d .args .length) (c .checked2 .given .0 .0 .size)
-message c = taken sysex8 _ _ (sym (c .before .before .check .ensures) ∙ ap checkMeaning8 (c .checked2 .given .1))
+message : (c : tie.Else1) → let d = c .before .before .before .before in Taken sysex8 (d .args .words .now) (d .args .length) (c .before .size-found .result - 1)
+message c = found-taken sysex8 _ _ (c .before .size-found .ensures) (c .if1 .left)
 
-stands : (c : tie.After-locate) → let d = c .before .before .before .before .before .before .before .before .before .before in
-    Standing (d .args .words .now) (d .args .length) (d .args .index) (c .locate .result .packet) (c .locate .result .byte)
-stands c = let e = c .before .before in let m = message (e .before .before .before) in standing m (e .if1 .left) (c .locate .ensures)
+stands : (c : tie.After-place-of) → let d = c .before .before .before .before .before .before .before in
+    Standing (d .args .words .now) (d .args .length) (d .args .index) (c .place-of .result .packet) (c .place-of .result .byte)
+stands c = let e = c .before .before in standing (message (e .before)) (e .if2 .left) (c .place-of .ensures)
 
 returns : tie.Need-returns
 unfolding setByte
-returns c = let m = message (c .before .before .before) in rw (m .passes, ← (m .sized), le-leb _ _ (c .if1 .taken))
+returns c = let t = c .before .before in rw (← (c .why .ensures (found-none sysex8 _ _ (t .before .size-found .ensures) (t .if1 .taken))))
 
 returns-2 : tie.Need-returns-2
 unfolding setByte
-returns-2 c = rw (not-taken sysex8 _ _ (sym (c .before .before .before .check .ensures) ∙ ap checkMeaning8 (c .before .checked .given .1)))
+returns-2 c = let m = message (c .before) in rw (m .passes, ← (m .sized), le-leb _ _ (c .if2 .taken))
 
 returns-3 : tie.Need-returns-3
 unfolding setByte
@@ -33,22 +32,22 @@ returns-3 c =
     let b = c .before .before in
     let l = b .before .before in
     let e = l .before .before in
-    let m = message (e .before .before .before) in
+    let m = message (e .before) in
     let s = stands l in
-    rw (m .passes, ← (m .sized), lt-leb _ _ (e .if1 .left), ← (s .packet-is), ← (s .byte-is)) (ap (λ x. (pass, x)) (b .store-byte .ensures))
+    rw (m .passes, ← (m .sized), lt-leb _ _ (e .if2 .left), ← (s .packet-is), ← (s .byte-is)) (ap (λ x. (pass, x)) (b .store-byte .ensures))
 
 pub set-byte-spec : {M : Type 1} → statement M
 set-byte-spec =
     tie.close
     (tie.spec
     (λ c κs. search needs)
-    (λ c. search needs)
-    (λ c. search needs)
+    (λ c κs. search needs)
     (λ c. search needs)
     returns
-    (λ c κs. let e = c .before in let m = message (e .before .before .before) in (taken-inside sysex8 shaped8 _ _ (m .valid), wide-counted (m .valid), index-below m (e .if1 .left)))
-    (λ c κs. let s = stands (c .before) in (s .there, s .few, s .inner))
+    (λ c. search needs)
     (λ c. search needs)
     returns-2
+    (λ c κs. let e = c .before in (sized (message (e .before)), e .if2 .left))
+    (λ c κs. let s = stands (c .before) in (s .there, s .few, s .inner))
     (λ c. search needs)
     returns-3)

@@ -1,0 +1,25 @@
+-- `message::bytes::put_four`: one store for each octet. Assumes nothing.
+use borrow.Author.Needs.{needs}
+use native.Mathlib.Nat.{div-one}
+use native.Mathlib.Omega.{arith}
+use lib.ListN.{length-set}
+use Rattle.message.proofs.bytes.put_four.Statement.{statement}
+use Rattle.message.proofs.bytes.put_four.Tie as tie
+
+pub put-four-spec : {M : Type 1} → statement M
+put-four-spec =
+    tie.close
+    (tie.spec
+    (λ c. search needs)
+    (λ c. search needs)
+    (λ c. search needs)
+    (λ c. search needs)
+    (λ c. simp length-set (omega arith))
+    (λ c. search needs)
+    (λ c. search needs)
+    (λ c. simp length-set (omega arith))
+    (λ c. search needs)
+    (λ c. search needs)
+    (λ c. simp length-set (omega arith))
+    (λ c. search needs)
+    (λ c. rw (div-one (c .args .word))))

@@ -1,22 +1,21 @@
 -- Laws of the bytes that are taken. Assumes nothing.
-use mathlib.Core.Path.{_≡_, refl, sym, ap, _∙_}
-use mathlib.Core.Bool.{true, false}
-use mathlib.Core.List.{List, [], _∷_}
-use Prim.Native.Nat.{ℕ, zero, suc, _+_, _-_, _*_, _^_, _≤_, _<_, min}
-use native.Mathlib.Nat.{add-zero, add-suc, add-assoc, mul-assoc, pow-suc, mul-le-mul-right, suc-mul, pow-le-pow-right}
+use mathlib.Core.Path.{_≡_, refl, sym, _∙_}
+use mathlib.Core.List.{List, []}
+use Prim.Native.Nat.{ℕ, zero, suc, _+_, _-_, _*_, _/_, _%_, _^_, _≤_, _<_, min}
+use native.Mathlib.Nat.{add-zero, add-suc, add-assoc, mul-assoc, mod-eq-of-lt, pow-suc, mul-le-mul-right, suc-mul, pow-le-pow-right}
 use native.Mathlib.Numerals.{add-one}
 use native.Mathlib.Omega.{arith}
+use lib.Bits.{bitAnd, and-block, and-high}
 use lib.Dec.{lit<}
 use lib.ListN.{length, getD, drop, length-drop, drop-of-length-le}
 use lib.Pow.{pow-add}
 use lib.Seq.{getD-drop, drop-cons, drop-drop}
 use borrow.Author.Tests.{le-ltb, lt-ltb}
 use Rattle.ump.specs.Word.{Below}
-use Rattle.ump.specs.Stream.{realTime, withoutRealTime}
 use Rattle.ump.proofs.First.{Side, under, over, side}
 use Rattle.ump.proofs.Words.{below-drop, below-getD, below-at}
-use Rattle.ump.proofs.Without.{Front, skipped, kept, front, length-without, below-without}
-use Rattle.stream.specs.Steps.{onward, octetsOf, Took, TookSix, Filled}
+use Rattle.ump.proofs.Without.{length-without, below-without}
+use Rattle.stream.specs.Steps.{onward, octetsOf, pairAt, fourAt, Took, TookSix, Filled}
 
 -- ---- bytes that are taken
 
@@ -26,7 +25,7 @@ octets-add m (suc n) l =
     rw (add-suc, octets-add m n l, getD-drop m l n 0, pow-suc 256 n)
     (omega (arith, mul-assoc (octetsOf m l) (256 ^ n) 256))
 
-pub took-both : {m n x y : ℕ} {before middle after : List ℕ} → Took m before x middle → Took n middle y after
+took-both : {m n x y : ℕ} {before middle after : List ℕ} → Took m before x middle → Took n middle y after
     → Took (m + n) before (x * 256 ^ n + y) after
 took-both {m} {n} {x} {y} {before} {middle} {after} h k =
     record {
@@ -39,19 +38,16 @@ took-both {m} {n} {x} {y} {before} {middle} {after} h k =
 
 -- the byte at a position is data, a real-time byte, or there is none
 module _ (inner : List ℕ) (at : ℕ) where
-  pub onward-data : at < length inner → realTime (getD inner at 0) ≡ false → onward inner at ≡ getD inner at 0 ∷ onward inner (at + 1)
-  onward-data h e = rw (drop-cons inner at 0 h, e, add-one)
-
-  pub onward-skip : at < length inner → realTime (getD inner at 0) ≡ true → onward inner (at + 1) ≡ onward inner at
-  onward-skip h e = rw (drop-cons inner at 0 h, e, add-one)
-
-  pub took-byte : at < length inner → getD inner at 0 < 0xF8 → Took 1 (onward inner at) (getD inner at 0) (onward inner (at + 1))
+  took-byte : at < length inner → getD inner at 0 < 0xF8 → Took 1 (onward inner at) (getD inner at 0) (onward inner (at + 1))
   took-byte h l =
-      let e : onward inner at ≡ getD inner at 0 ∷ onward inner (at + 1) = onward-data h (le-ltb 0xF7 (getD inner at 0) (omega arith)) in
-      rw e (record { value = omega arith; small = omega arith; rest = refl })
+      let d = le-ltb 0xF7 (getD inner at 0) (omega arith) in
+      rw (drop-cons inner at 0 h, d, add-one) (record { value = omega arith; small = omega arith; rest = refl })
+
+  onward-skip : at < length inner → 0xF8 ≤ getD inner at 0 → onward inner (at + 1) ≡ onward inner at
+  onward-skip h l = rw (drop-cons inner at 0 h, lt-ltb 0xF7 (getD inner at 0) l, add-one)
 
   -- where data is to come, a byte stands
-  pub onward-some : 0 < length (onward inner at) → at < length inner
+  onward-some : 0 < length (onward inner at) → at < length inner
   onward-some h = go (side at (length inner))
     where
       go : Side at (length inner) → at < length inner
@@ -74,24 +70,7 @@ module _ {inner : List ℕ} {at count octets taken next : ℕ} (t : Taking inner
   taking-data k l = record { so-far = took-both (t .so-far) (took-byte inner next k l); within = omega arith }
 
   pub taking-clock : next < length inner → 0xF8 ≤ getD inner next 0 → Taking inner at count octets taken (next + 1)
-  taking-clock k l = record { so-far = rw (onward-skip inner next k (lt-ltb 0xF7 (getD inner next 0) l)) (t .so-far); within = t .within }
-
--- the same of bytes in a row
-pub record InRow (inner : List ℕ) (at count octets taken : ℕ) : Type 0 where
-  pub so-far : Took taken (drop at inner) octets (drop (at + taken) inner)
-  pub within : taken ≤ count
-
-pub row-none : {inner : List ℕ} (at : ℕ) {count : ℕ} → InRow inner at count 0 0
-row-none {inner} at = record { so-far = record { value = refl; small = lit< tt; rest = rw (add-zero at) }; within = omega arith }
-
-stood-byte : (inner : List ℕ) (at : ℕ) → getD inner at 0 < 256 → Took 1 (drop at inner) (getD inner at 0) (drop (at + 1) inner)
-stood-byte inner at h =
-    record { value = rw (getD-drop at inner 0 0, add-zero) (omega arith); small = h; rest = sym (drop-drop 1 at inner) }
-
-pub row-more : {inner : List ℕ} {at count octets taken : ℕ} → InRow inner at count octets taken → taken < count → getD inner (at + taken) 0 < 256
-    → InRow inner at count (octets * 256 + getD inner (at + taken) 0) (taken + 1)
-row-more {inner} {at} {count} {octets} {taken} t h l =
-    record { so-far = rw (← (add-assoc at taken 1)) (took-both (t .so-far) (stood-byte inner (at + taken) l)); within = omega arith }
+  taking-clock k l = record { so-far = rw (onward-skip inner next k l) (t .so-far); within = t .within }
 
 -- six octets at most fit a number of 48 bits
 pub took-small : {taken octets : ℕ} {before after : List ℕ} → Took taken before octets after → taken ≤ 6 → octets < 256 ^ 6
@@ -99,43 +78,42 @@ took-small {taken} t h =
     let l : 256 ^ taken ≤ 256 ^ 6 = pow-le-pow-right (lit< tt) h in
     omega (arith, t .small)
 
--- ---- bytes in a row
+-- ---- six bytes in a row
 
-module _ (inner : List ℕ) (at : ℕ) where
-  pub stood-two : getD inner at 0 < 256 → getD inner (at + 1) 0 < 256
-      → Took 2 (drop at inner) (getD inner at 0 * 256 + getD inner (at + 1) 0) (drop 2 (drop at inner))
-  stood-two h k =
-      record {
-        value = rw (getD-drop at inner 0 0, getD-drop at inner 1 0, add-zero) (omega arith);
-        small = omega arith;
-        rest = refl;
-      }
+-- where six bytes of data are to come, six bytes stand
+pub six-stand : (inner : List ℕ) (at : ℕ) → 6 ≤ length (onward inner at) → at + 6 ≤ length inner
+six-stand inner at h = omega (arith, length-without (drop at inner), length-drop at inner)
 
-  -- from a position further on
-  further : (n : ℕ) {m x : ℕ} {after : List ℕ} → Took m (drop (at + n) inner) x after → Took m (drop n (drop at inner)) x after
-  further n t = rw (drop-drop n at inner) t
+-- no byte has its top bit set where a mask of top bits meets nothing
+top-clear : (x : ℕ) → x < 256 → bitAnd x 128 ≡ 0 → x < 128
+top-clear x h e =
+    let d : x / 128 < 2 = omega arith in
+    let s : x / 128 % 2 * 128 ≡ 0 = sym (and-high x 1 7) ∙ e in
+    omega (arith, rw (mod-eq-of-lt d) at s)
 
-  pub stood-six : {x y z : ℕ} → Took 2 (drop at inner) x (drop 2 (drop at inner)) → Took 2 (drop (at + 2) inner) y (drop 2 (drop (at + 2) inner))
-      → Took 2 (drop (at + 4) inner) z (drop 2 (drop (at + 4) inner)) → TookSix (drop at inner) x (y * 65536 + z) (drop (at + 6) inner)
-  stood-six h k m =
-      record {
-        two = h;
-        four = took-both (further 2 (rw (drop-drop 2 (at + 2) inner, add-assoc at 2 2) at k)) (rw (drop-drop 2 (at + 4) inner, add-assoc at 4 2) at m);
-      }
+two-data : {x y : ℕ} → x < 256 → y < 256 → bitAnd (x * 256 + y) 0x8080 ≡ 0 → (x < 128) × (y < 128)
+two-data {x} {y} h k e =
+    let s : bitAnd x 128 * 256 + bitAnd y 128 ≡ 0 = sym (and-block 8 x 128 y 128 k (lit< tt)) ∙ e in
+    (top-clear x h (omega arith), top-clear y k (omega arith))
 
--- where no real-time byte stands, all that stands from a position on is data
-pub plain-onward : (inner : List ℕ) (at : ℕ) → length (withoutRealTime inner) ≡ length inner → onward inner at ≡ drop at inner
-plain-onward [] zero e = refl
-plain-onward [] (suc at) e = refl
-plain-onward (x ∷ inner) at e = go (front x inner) at (λ n k. plain-onward inner n k)
-  where
-    go : Front x inner → (at : ℕ) → ((n : ℕ) → length (withoutRealTime inner) ≡ length inner → onward inner n ≡ drop n inner) → onward (x ∷ inner) at ≡ drop at (x ∷ inner)
-    go (skipped h f) n k = absurd (omega (arith, ap length f, length-without inner, e))
-    go (kept h f) zero k = f ∙ rw (k 0 (omega (arith, ap length f, e)))
-    go (kept h f) (suc n) k = k n (omega (arith, ap length f, e))
+module _ (inner : List ℕ) (byte : (i : ℕ) → getD inner i 0 < 256) where
+  -- two bytes whose top bits are clear are data
+  took-two : (at : ℕ) → at + 2 ≤ length inner → bitAnd (pairAt inner at) 0x8080 ≡ 0 → Took 2 (onward inner at) (pairAt inner at) (onward inner (at + 2))
+  took-two at h e =
+      let d = two-data (byte at) (byte (at + 1)) e in
+      rw (add-assoc at 1 1) at (took-both (took-byte inner at (omega arith) (omega arith)) (took-byte inner (at + 1) (omega arith) (omega arith)))
 
-pub plain-six : (inner : List ℕ) (at : ℕ) → length (withoutRealTime inner) ≡ length inner → 6 ≤ length (onward inner at) → at + 6 ≤ length inner
-plain-six inner at e h = omega (arith, rw (plain-onward inner at e) at h, length-drop at inner)
+  pub took-row : (at : ℕ) → at + 6 ≤ length inner
+      → bitAnd (pairAt inner at) 0x8080 + bitAnd (fourAt inner (at + 2)) 0x80808080 ≡ 0
+      → TookSix (onward inner at) (pairAt inner at) (fourAt inner (at + 2)) (onward inner (at + 6))
+  took-row at h e =
+      let k : ℕ = at + 2 in
+      let l : pairAt inner (k + 2) < 65536 = omega (arith, byte (k + 2), byte (k + 2 + 1)) in
+      let b = and-block 16 (pairAt inner k) 0x8080 (pairAt inner (k + 2)) 0x8080 l (lit< tt) in
+      let t = took-two at (omega arith) (omega arith) in
+      let n : at + 6 ≡ k + 2 + 2 = omega arith in
+      let f = took-both (took-two k (omega arith) (omega (arith, b))) (took-two (k + 2) (omega arith) (omega (arith, b))) in
+      record { two = t .value; four = rw (← (t .rest)) (f .value); small = t .small; rest = rw n (took-both t f .rest) }
 
 -- bytes that were taken fill six octets, zero behind them
 octets-none : (n : ℕ) → octetsOf n [] ≡ 0
@@ -176,11 +154,7 @@ took-six count {l} {after} {x} {high} {low} b e t c =
     let h : octetsOf 2 l < 65536 = octets-small 2 l b in
     let k : octetsOf 4 (drop 2 l) < 4294967296 = octets-small 4 (drop 2 l) (below-drop 256 2 l b) in
     let y : high ≡ octetsOf 2 l = rw s at (c .cut-high) ∙ omega arith in
-    let z : low ≡ octetsOf 4 (drop 2 l) = rw s at (c .cut-low) ∙ omega arith in
-    record {
-      two = record { value = y; small = omega arith; rest = refl };
-      four = record { value = z; small = omega arith; rest = f .1 ∙ sym (drop-drop 4 2 l) };
-    }
+    record { two = y; four = rw s at (c .cut-low) ∙ omega arith; small = omega arith; rest = f .1 }
 
 pub onward-below : (inner : List ℕ) (at : ℕ) → ((i : ℕ) → getD inner i 0 < 256) → Below 256 (onward inner at)
 onward-below inner at h = below-without 256 (drop at inner) (below-drop 256 at inner (below-at 256 inner (λ i k. h i)))

@@ -1,5 +1,5 @@
 pub mod Laws
-pub mod Walking
+pub mod Counting
 pub mod Frames
 pub mod Writing
 pub mod Unique

@@ -1,27 +1,35 @@
--- What the walk over a stream finds, and what the steps of writing the packets read.
+-- What is counted in a stream, and what the steps of writing the packets read.
 -- Assumes nothing.
 use mathlib.Core.Path.{_≡_}
-use mathlib.Core.Bool.{Bool, true}
-use mathlib.Core.List.{List, [], _++_}
-use Prim.Native.Nat.{ℕ, zero, suc, _+_, _-_, _*_, _/_, _%_, _^_, _<_, min}
-use lib.ListN.{length, getD, take, drop}
+use mathlib.Core.Bool.{cond}
+use mathlib.Core.List.{List, [], _∷_, _++_}
+use Prim.Native.Nat.{ℕ, zero, suc, _+_, _-_, _*_, _/_, _%_, _^_, _<_}
+use lib.Dec.{ltb}
+use lib.ListN.{length, getD, drop}
 use Rattle.ump.specs.Packet.{sysex7}
 use Rattle.ump.specs.Packing.{packetsFor, pack}
-use Rattle.ump.specs.Stream.{badByte, withoutRealTime, firstBad}
+use Rattle.ump.specs.Stream.{withoutRealTime}
 
 -- the data that stands from a position on
 abbrev pub onward : List ℕ → ℕ → List ℕ
 onward inner at = withoutRealTime (drop at inner)
 
--- what one walk finds: the first bad byte, and how much data stands before it
-pub record Scan (inner : List ℕ) (bad size : ℕ) : Type 0 where
-  pub is-first : bad ≡ firstBad badByte inner
-  pub counted : size ≡ length (withoutRealTime (take bad inner))
+-- how many bytes are below a limit
+abbrev pub countBelow : ℕ → List ℕ → ℕ
+countBelow limit [] = 0
+countBelow limit (byte ∷ bytes) = cond (ltb byte limit) (suc (countBelow limit bytes)) (countBelow limit bytes)
 
 -- the first n bytes as octets of a number, zero where there is none
 abbrev pub octetsOf : ℕ → List ℕ → ℕ
 octetsOf zero bytes = 0
 octetsOf (suc n) bytes = octetsOf n bytes * 256 + getD bytes n 0
+
+-- two bytes that stand at a position, and four, as octets
+abbrev pub pairAt : List ℕ → ℕ → ℕ
+pairAt inner at = getD inner at 0 * 256 + getD inner (at + 1) 0
+
+abbrev pub fourAt : List ℕ → ℕ → ℕ
+fourAt inner at = pairAt inner at * 65536 + pairAt inner (at + 2)
 
 -- n bytes were taken
 pub record Took (n : ℕ) (before : List ℕ) (octets : ℕ) (after : List ℕ) : Type 0 where
@@ -31,18 +39,19 @@ pub record Took (n : ℕ) (before : List ℕ) (octets : ℕ) (after : List ℕ) 
 
 -- six bytes were taken, two and then four
 pub record TookSix (before : List ℕ) (high low : ℕ) (after : List ℕ) : Type 0 where
-  pub two : Took 2 before high (drop 2 before)
-  pub four : Took 4 (drop 2 before) low after
+  pub two : high ≡ octetsOf 2 before
+  pub four : low ≡ octetsOf 4 (drop 2 before)
+  pub small : high < 65536
+  pub rest : after ≡ drop 6 before
 
 -- so many octets of a number are shifted up to six, and these are cut in two words
 pub record Filled (count octets high low : ℕ) : Type 0 where
   pub cut-high : high ≡ octets * 2 ^ (8 * (6 - count)) % 2 ^ 64 / 2 ^ 32
   pub cut-low : low ≡ octets * 2 ^ (8 * (6 - count)) % 2 ^ 64 % 2 ^ 32
 
--- a packet of so many data bytes is to be taken from a position on; plain says that no real-time byte stands among all
-pub record Coming (inner : List ℕ) (at count : ℕ) (plain : Bool) : Type 0 where
-  pub counted : count ≡ min 6 (length (onward inner at))
-  pub in-a-row : plain ≡ true → length (withoutRealTime inner) ≡ length inner
+-- the first word of a packet without its bytes: type 3 and group, status and count
+abbrev pub headWord : ℕ → ℕ → ℕ → ℕ
+headWord group status count = (48 + group) * 16777216 + (status * 1048576 + count * 65536)
 
 -- so much data, in so many packets
 pub record Sized (inner : List ℕ) (size packets : ℕ) : Type 0 where

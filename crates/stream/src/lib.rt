@@ -1,14 +1,14 @@
 // A byte stream to SysEx7 packets: F0, data, F7 and a group. Real-time bytes between F0 and F7 are passed over.
 ghost use mathlib.Core.Path.{_≡_};
 ghost use Prim.Native.Nat.{_+_, _-_, _*_, _≤_, _<_, min};
-ghost use lib.ListN.{length, getD, take, drop};
+ghost use lib.ListN.{length, set};
 ghost use Rattle.refusal.specs.Answer.{refused};
 ghost use Rattle.refusal.specs.Number.{numberOf};
 ghost use Rattle.ump.specs.Packet.{sysex7};
 ghost use Rattle.ump.specs.Packing.{statusFor, packetsFor};
-ghost use Rattle.ump.specs.Stream.{badFrame, toSysex7};
+ghost use Rattle.ump.specs.Stream.{badFrame, badByte, withoutRealTime, firstBad, toSysex7};
 ghost use Rattle.stream.specs.Meaning.{writtenMeaning};
-ghost use Rattle.stream.specs.Steps.{onward, Scan, Took, TookSix, Filled, Coming, Sized, withPackets};
+ghost use Rattle.stream.specs.Steps.{onward, countBelow, pairAt, fourAt, headWord, Took, TookSix, Filled, Sized, withPackets};
 use refusal::Fault;
 use refusal::Refusal;
 
@@ -31,12 +31,6 @@ struct Six {
     next: usize,
 }
 
-// The index of the first byte that may not stand there, and the data bytes before it.
-struct Scanned {
-    bad: usize,
-    size: usize,
-}
-
 // A refusal with its place, as the answer.
 fn refuse(refusal: Refusal, place: usize) -> Written
     ensures { λ r. ⌜ writtenMeaning r ≡ refused (numberOf refusal) place ⌝ }
@@ -57,27 +51,71 @@ fn bad_frame(bytes: &[u8]) -> bool
     bytes[bytes.len() - 1] != 0xF7
 }
 
-// One walk over the bytes behind F0: of those before the last, the index of the first of 80 to F7 hex, their number if there is none, and
-// the data bytes before it. The last byte, F7, ends the walk at the latest.
-fn scan(rest: &[u8]) -> Scanned
-    requires { ⌜ (0 < length (now rest)) × (getD (now rest) (length (now rest) - 1) 0 ≡ 0xF7) ⌝ }
-    ensures { λ r. ⌜ Scan (take (length (now (rest .entry)) - 1) (now (rest .entry))) (r .bad) (r .size) ⌝ }
+// The smaller of two numbers.
+fn least(a: usize, b: usize) -> usize
+    ensures { λ r. ⌜ r ≡ min a b ⌝ }
 {
+    if a < b { a } else { b }
+}
+
+// How many of at most 255 bytes are below a limit.
+fn count_few(bytes: &[u8], limit: u8) -> u8
+    requires { ⌜ length (now bytes) ≤ 255 ⌝ }
+    ensures { λ r. ⌜ r ≡ countBelow limit (now (bytes .entry)) ⌝ }
+{
+    let mut number = 0;
     let mut at = 0;
-    let mut passed_over = 0;
-    loop {
-        if rest[at] > 0x7F {
-            if rest[at] < 0xF8 {
-                break;
-            }
-            passed_over += 1;
+    while at < bytes.len() {
+        if bytes[at] < limit {
+            number += 1;
         }
         at += 1;
     }
-    Scanned {
-        bad: at,
-        size: at - passed_over,
+    number
+}
+
+// How many bytes are below a limit, counted 192 at a time, whose number fits a byte.
+fn count_below(bytes: &[u8], limit: u8) -> usize
+    ensures { λ r. ⌜ r ≡ countBelow limit (now (bytes .entry)) ⌝ }
+{
+    if bytes.len() < 192 {
+        return count_few(bytes, limit) as usize;
     }
+    let mut number = 0;
+    let mut at = 0;
+    while at < bytes.len() {
+        let next = at + least(192, bytes.len() - at);
+        number += count_few(&bytes[at..next], limit) as usize;
+        at = next;
+    }
+    number
+}
+
+// The data size: how many bytes are no real-time bytes, given how many are below 80 hex.
+fn data_size(inner: &[u8], septets: usize) -> usize
+    requires { ⌜ septets ≡ countBelow 0x80 (now inner) ⌝ }
+    ensures { λ r. ⌜ r ≡ length (withoutRealTime (now (inner .entry))) ⌝ }
+{
+    if septets == inner.len() {
+        return septets;
+    }
+    count_below(inner, 0xF8)
+}
+
+// The index of the first byte of 80 to F7 hex; the number of bytes if there is none.
+fn first_bad(inner: &[u8]) -> usize
+    ensures { λ r. ⌜ r ≡ firstBad badByte (now (inner .entry)) ⌝ }
+{
+    let mut at = 0;
+    while at < inner.len() {
+        if inner[at] > 0x7F {
+            if inner[at] <= 0xF7 {
+                return at;
+            }
+        }
+        at += 1;
+    }
+    at
 }
 
 // The packets of six bytes, only the last shorter; one if there is no data.
@@ -90,35 +128,19 @@ fn packets_for(size: usize) -> usize
     (size - 1) / 6 + 1
 }
 
-// The status of packet `packet` of `packets`: complete; start, continue, end.
-fn status_for(packets: usize, packet: usize) -> u8
-    requires { ⌜ packet < packets ⌝ }
-    ensures { λ r. ⌜ r ≡ statusFor packets packet ⌝ }
+// The status of the last packet: complete if it is the first, else end.
+fn last_status(packet: usize) -> u8
+    ensures { λ r. ⌜ (r ≡ statusFor (packet + 1) packet) × (r ≤ 3) ⌝ }
 {
-    if packets == 1 {
-        0
-    } else if packet == 0 {
-        1
-    } else if packet + 1 == packets {
-        3
-    } else {
-        2
-    }
+    if packet == 0 { 0 } else { 3 }
 }
 
-// The bytes that a packet carries of those left: six, only the last fewer.
-fn count_for(left: usize) -> usize
-    ensures { λ r. ⌜ r ≡ min 6 left ⌝ }
+// The first word of a packet without its bytes: type 3 and group, status and count.
+fn head_word(group: u8, status: u8, count: usize) -> u32
+    requires { ⌜ (group ≤ 15) × (status ≤ 3) × (count ≤ 6) ⌝ }
+    ensures { λ r. ⌜ (r ≡ headWord group status count) × (r < 0x40000000) ⌝ }
 {
-    if left < 6 { left } else { 6 }
-}
-
-// The first two octets of packet `packet` of `packets`: type 3 and group, status and count.
-fn head_octets(group: u8, packets: usize, packet: usize, count: usize) -> u16
-    requires { ⌜ (group ≤ 15) × (packet < packets) × (count ≤ 6) ⌝ }
-    ensures { λ r. ⌜ r ≡ (48 + group) * 256 + (statusFor packets packet * 16 + count) ⌝ }
-{
-    (0x30 + group as u16) * 0x100 + status_for(packets, packet) as u16 * 0x10 + count as u16
+    (0x30 + group as u32) * 0x100_0000 + status as u32 * 0x10_0000 + count as u32 * 0x1_0000
 }
 
 // The next `count` data bytes from a position on, real-time bytes passed over.
@@ -140,23 +162,6 @@ fn take_bytes(inner: &[u8], at: usize, count: usize) -> Taken
     Taken { octets, next }
 }
 
-// So many bytes that stand in a row at a position.
-fn row_at(inner: &[u8], at: usize, count: usize) -> Taken
-    requires { ⌜ (count ≤ 6) × (count ≤ length (drop at (now inner))) ⌝ }
-    ensures { λ r. ⌜ Took count (drop at (now (inner .entry))) (r .octets) (drop (r .next) (now (inner .entry))) ⌝ }
-{
-    let mut octets: u64 = 0;
-    let mut taken = 0;
-    while taken < count {
-        octets = octets * 0x100 + inner[at + taken] as u64;
-        taken += 1;
-    }
-    Taken {
-        octets,
-        next: at + count,
-    }
-}
-
 // So many data bytes as octets of a packet, with unused octets, zero, behind them.
 fn filled(taken: Taken, count: usize) -> Six
     requires { ⌜ count ≤ 6 ⌝ }
@@ -170,39 +175,55 @@ fn filled(taken: Taken, count: usize) -> Six
     }
 }
 
+// A byte as a number of 32 bits.
+fn wide(byte: u8) -> u32
+    ensures { λ r. ⌜ (r ≡ byte) × (r < 256) ⌝ }
+{
+    byte as u32
+}
+
 // Two bytes that stand at a position, as octets.
 fn two_at(inner: &[u8], at: usize) -> u32
     requires { ⌜ at + 2 ≤ length (now inner) ⌝ }
-    ensures { λ r. ⌜ Took 2 (drop at (now (inner .entry))) r (drop 2 (drop at (now (inner .entry)))) ⌝ }
+    ensures { λ r. ⌜ (r ≡ pairAt (now (inner .entry)) at) × (r < 65536) ⌝ }
 {
-    inner[at] as u32 * 0x100 + inner[at + 1] as u32
+    wide(inner[at]) * 0x100 + wide(inner[at + 1])
 }
 
-// Six bytes that stand at a position.
-fn six_at(inner: &[u8], at: usize) -> Six
-    requires { ⌜ at + 6 ≤ length (now inner) ⌝ }
-    ensures { λ r. ⌜ TookSix (drop at (now (inner .entry))) (r .high) (r .low) (drop (r .next) (now (inner .entry))) ⌝ }
+// Four bytes that stand at a position, as octets.
+fn four_at(inner: &[u8], at: usize) -> u32
+    requires { ⌜ at + 4 ≤ length (now inner) ⌝ }
+    ensures { λ r. ⌜ r ≡ fourAt (now (inner .entry)) at ⌝ }
 {
-    Six {
-        high: two_at(inner, at),
-        low: two_at(inner, at + 2) * 0x1_0000 + two_at(inner, at + 4),
-        next: at + 6,
-    }
+    two_at(inner, at) * 0x1_0000 + two_at(inner, at + 2)
 }
 
-// The data bytes of a packet, so many from a position on, and unused octets, zero. They stand in a row if no real-time byte stands among
-// all.
-fn take_six(inner: &[u8], at: usize, count: usize, plain: bool) -> Six
-    requires { ⌜ Coming (now inner) at count plain ⌝ }
+// The data bytes of a packet, so many from a position on, and unused octets, zero: six at once if their top bits are clear.
+fn take_six(inner: &[u8], at: usize, count: usize) -> Six
+    requires { ⌜ count ≡ min 6 (length (onward (now inner) at)) ⌝ }
     ensures { λ r. ⌜ TookSix (onward (now (inner .entry)) at) (r .high) (r .low) (onward (now (inner .entry)) (r .next)) ⌝ }
 {
-    if plain {
-        if count == 6 {
-            return six_at(inner, at);
+    if count == 6 {
+        let high = two_at(inner, at);
+        let low = four_at(inner, at + 2);
+        if (high & 0x8080) + (low & 0x8080_8080) == 0 {
+            return Six {
+                high,
+                low,
+                next: at + 6,
+            };
         }
-        return filled(row_at(inner, at, count), count);
     }
     filled(take_bytes(inner, at, count), count)
+}
+
+// Writes the two words of a packet.
+fn put(words: &mut [u32], packet: usize, first: u32, second: u32)
+    requires { ⌜ 2 * packet + 2 ≤ length (now words) ⌝ }
+    ensures { λ _. ⌜ now (words .exit) ≡ set (set (now (words .entry)) (2 * packet) first) (2 * packet + 1) second ⌝ }
+{
+    words[2 * packet] = first;
+    words[2 * packet + 1] = second;
 }
 
 // Writes the packets of so many data bytes: six each, only the last fewer; words past them stay.
@@ -210,20 +231,21 @@ fn write_packets(inner: &[u8], size: usize, group: u8, packets: usize, words: &m
     requires { ⌜ (group ≤ 15) × Sized (now inner) size packets × (2 * packets ≤ length (now words)) ⌝ }
     ensures { λ _. ⌜ now (words .exit) ≡ withPackets group packets (now (inner .entry)) (now (words .entry)) ⌝ }
 {
-    let plain = size == inner.len();
-    let mut left = size;
+    let last = packets - 1;
+    let mut head = head_word(group, 1, 6);
     let mut at = 0;
     let mut packet = 0;
-    while packet < packets {
-        let count = count_for(left);
-        let head = head_octets(group, packets, packet, count);
-        let six = take_six(inner, at, count, plain);
-        words[2 * packet] = head as u32 * 0x1_0000 + six.high;
-        words[2 * packet + 1] = six.low;
+    while packet < last {
+        let six = take_six(inner, at, 6);
+        put(words, packet, head + six.high, six.low);
+        head = head_word(group, 2, 6);
         at = six.next;
-        left -= count;
         packet += 1;
     }
+    let count = size - 6 * packet;
+    let six = take_six(inner, at, count);
+    let head = head_word(group, last_status(packet), count);
+    put(words, packet, head + six.high, six.low);
 }
 
 // F0, data, F7 and a group become SysEx7 packets in the words lent; answers the words written. Real-time bytes F8 to FF between F0 and F7
@@ -241,14 +263,15 @@ pub fn to_sysex7(bytes: &[u8], group: u8, words: &mut [u32]) -> Written
         return refuse(Refusal::Frame, 0);
     }
     let inner = &bytes[1..bytes.len() - 1];
-    let found = scan(&bytes[1..]);
-    if found.bad < inner.len() {
-        return refuse(Refusal::Byte, found.bad + 1);
+    let septets = count_below(inner, 0x80);
+    let size = data_size(inner, septets);
+    if septets < size {
+        return refuse(Refusal::Byte, first_bad(inner) + 1);
     }
-    let packets = packets_for(found.size);
+    let packets = packets_for(size);
     if words.len() / 2 < packets {
         return refuse(Refusal::Room, 0);
     }
-    write_packets(inner, found.size, group, packets, words);
+    write_packets(inner, size, group, packets, words);
     Written::Words(2 * packets)
 }

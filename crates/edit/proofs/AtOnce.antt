@@ -1,14 +1,14 @@
 -- All edits of a list at once: what is known where they are done, that they are not refused where they can be done one after the other,
 -- and which octet comes from where. For any shape, over the definitions. Assumes nothing.
 use mathlib.Core.Path.{_≡_, refl, sym, ap, ap₂, _∙_}
-use mathlib.Core.Bool.{false, not, _||_}
+use mathlib.Core.Bool.{false}
 use mathlib.Core.List.{List, [], _∷_}
 use Prim.Native.Nat.{ℕ, zero, suc, _+_, _*_, _%_, _/_, _≤_, _<_}
 use native.Mathlib.Nat.{le-trans}
 use native.Mathlib.Omega.{arith}
-use lib.Dec.{eqb, ltb}
+use lib.Dec.{ltb}
 use lib.IntN.{pos, _-ℤ_}
-use lib.ListN.{length, getD, take, drop, length-drop}
+use lib.ListN.{length, getD, drop, length-drop}
 use lib.Seq.{length-take-le}
 use borrow.Author.Tests.{ltb-false, le-ltb, eq-eqb}
 use Rattle.refusal.specs.Answer.{Answer, gives, refused, Verdict, pass, _▷_, guard, writes}
@@ -18,22 +18,23 @@ use Rattle.ump.specs.Packet.{Shape, groupAt, idAt}
 use Rattle.ump.specs.Packing.{wordsFor}
 use Rattle.ump.specs.Check.{check, payloadOf}
 use Rattle.ump.specs.Splice.{Spliced, rewritten}
-use Rattle.ump.specs.Edits.{Edit, Patch, patchAt, editsFor, replaced, allBytes, perEdit, editsOf, patchesOf, lengths, someBad, badList, someOverlap, allChecks, spliceAll}
+use Rattle.ump.specs.Edits.{Edit, Patch, patchAt, editsFor, replaced, allBytes, perEdit, editsOf, patchesOf, lengths, someBad, badList, someOverlap, allChecks, spliceAll, total}
 use Rattle.ump.specs.Holds.{Fewest}
 use Rattle.ump.specs.Worker.{Fits}
 use Rattle.ump.specs.Demand.{WholeEdits}
 use Rattle.ump.specs.Origin.{Origin, originIn, origin, octetFrom, Traced}
 use Rattle.ump.proofs.Words.{below-take, below-drop}
 use Rattle.ump.proofs.Sizes.{words-mono}
-use Rattle.ump.proofs.Checks.{pass-both, or-left, or-right}
+use Rattle.ump.proofs.Checks.{pass-both}
 use Rattle.ump.proofs.Splicing.{below-payload}
-use Rattle.ump.proofs.Replace.{to-le, endFrom, end-before, end-next}
+use Rattle.ump.proofs.Counting.{total-front}
 use Rattle.ump.proofs.Done.{writes-given, guard-passed}
 use Rattle.ump.proofs.Demand.{Dense, fits-small, same-message, rewritten-is-fewest}
 use Rattle.ump.proofs.Origins.{octet-front, below-replaced, rewritten-traced}
 use Rattle.ump.proofs.Asking.{asked-refused, asked-lent, Given, asked-given}
-use Rattle.edit.proofs.Apart.{apart, all-put, size-replaced}
-use Rattle.edit.proofs.Lists.{same-bytes}
+use Rattle.splice.proofs.Lists.{Ordered, ordered, widths-inside, length-replaced}
+use Rattle.edit.proofs.Apart.{apart}
+use Rattle.edit.proofs.Lists.{list-good}
 
 -- ---- edits with their bytes end to end
 
@@ -49,6 +50,17 @@ edits-for (edit ∷ edits) bytes h =
     ap₂ (λ (n : ℕ) (rest : List Edit). record { from = edit .from; to = edit .to; length = n } ∷ rest)
     (length-take-le (edit .length) bytes (omega arith))
     (edits-for edits (drop (edit .length) bytes) (omega (arith, length-drop (edit .length) bytes)))
+
+all-put : (edits : List Edit) (bytes : List ℕ) → lengths edits ≤ length bytes → allBytes (patchesOf edits bytes) ≡ lengths edits
+unfolding total
+all-put [] bytes h = refl
+all-put (edit ∷ edits) bytes h =
+    omega (
+      arith,
+      total-front (λ j. length (patchAt (patchesOf (edit ∷ edits) bytes) j .bytes)) (length (patchesOf edits (drop (edit .length) bytes))),
+      length-take-le (edit .length) bytes (omega arith),
+      all-put edits (drop (edit .length) bytes) (omega (arith, length-drop (edit .length) bytes)),
+    )
 
 -- ---- what is known where the checks pass
 
@@ -77,13 +89,11 @@ module _ (s : Shape) (words : List ℕ) (len : ℕ) (numbers bytes : List ℕ) (
       let a = pass-both (check s words len) (range ▷ overlap ▷ last) ok in
       let b = pass-both range (overlap ▷ last) (a .1) in
       let c = pass-both overlap last (b .1) in
-      let ragged = not (eqb (length numbers % perEdit) 0) in
-      let uneven = not (eqb (length bytes) (lengths (editsOf numbers))) in
-      let listed = or-right ragged (someBad (length old) (editsOf numbers) || uneven) (guard-passed (badList (length old) (length bytes) numbers) 13 0 (b .0)) in
+      let good = list-good (length old) (length bytes) numbers (guard-passed (badList (length old) (length bytes) numbers) 13 0 (b .0)) in
       record {
         passes = a .0;
-        good = or-left (someBad (length old) (editsOf numbers)) uneven listed;
-        whole = same-bytes (length bytes) (lengths (editsOf numbers)) (or-right (someBad (length old) (editsOf numbers)) uneven listed);
+        good = good .0;
+        whole = good .1;
         clear = guard-passed (someOverlap 0 (editsOf numbers)) 20 0 (c .0);
         room = ltb-false (length words) (wordsFor s (length new)) (guard-passed (ltb (length words) (wordsFor s (length new))) 14 0 (c .1));
       }
@@ -175,41 +185,38 @@ refused-alike s words len numbers bytes e q = sym (asked-refused s words len num
 
 -- ---- they are not refused where they can be done one after the other
 
-overlap-free : (begin : ℕ) (edits : List Edit) (bytes : List ℕ)
-    → ((i : ℕ) → i < length (patchesOf edits bytes) → endFrom begin (patchesOf edits bytes) i ≤ patchAt (patchesOf edits bytes) i .from)
-    → someOverlap begin edits ≡ false
-overlap-free begin [] bytes h = refl
-overlap-free begin (edit ∷ edits) bytes h =
-    let patch : Patch = record { from = edit .from; to = edit .to; bytes = take (edit .length) bytes } in
-    let rest : List Patch = patchesOf edits (drop (edit .length) bytes) in
-    rw (le-ltb (edit .from) begin (h 0 (omega arith)))
-    (overlap-free (edit .to) edits (drop (edit .length) bytes) (λ i k. rw (end-next patch rest i) at (h (suc i) (omega arith))))
+overlap-free : (n end : ℕ) (edits : List Edit) → Ordered n end edits → someOverlap end edits ≡ false
+overlap-free n end [] o = refl
+overlap-free n end (edit ∷ edits) o = rw (le-ltb (edit .from) end (o .0)) (overlap-free n (edit .to) edits (o .1 .1))
 
-none-bad : (n : ℕ) (edits : List Edit) (bytes : List ℕ) → n ≤ 53248 → lengths edits ≤ 53248
-    → ((i : ℕ) → i < length (patchesOf edits bytes)
-    → (patchAt (patchesOf edits bytes) i .from ≤ patchAt (patchesOf edits bytes) i .to) × (patchAt (patchesOf edits bytes) i .to ≤ n))
-    → someBad n edits ≡ false
-none-bad n [] bytes h l f = refl
-none-bad n (edit ∷ edits) bytes h l f =
-    let here : (edit .from ≤ edit .to) × (edit .to ≤ n) = f 0 (omega arith) in
-    let forward : edit .from ≤ edit .to = here .0 in
-    let inside : edit .to ≤ n = here .1 in
-    rw (le-ltb (edit .to) (edit .from) forward, le-ltb 53248 (edit .to) (omega arith), le-ltb 53248 (edit .length) (omega arith), le-ltb n (edit .to) inside)
-    (none-bad n edits (drop (edit .length) bytes) h (omega arith) (λ i k. f (suc i) (omega arith)))
+none-bad : (n end : ℕ) (edits : List Edit) → Ordered n end edits → n ≤ 53248 → lengths edits ≤ 53248 → someBad n edits ≡ false
+none-bad n end [] o h l = refl
+none-bad n end (edit ∷ edits) o h l =
+    let inside = widths-inside n (edit .to) edits (o .1 .1) in
+    rw (
+      le-ltb (edit .to) (edit .from) (o .1 .0),
+      le-ltb 53248 (edit .to) (omega arith),
+      le-ltb 53248 (edit .length) (omega arith),
+      le-ltb n (edit .to) (omega arith),
+    )
+    (none-bad n (edit .to) edits (o .1 .1) h (omega arith))
 
 -- a message and edits that demand 3 allows, lent as whole edits with their bytes
 module _ {s : Shape} (dense : Dense s) (words : List ℕ) (len : ℕ) (numbers bytes : List ℕ) (fits : Fits s words len (patchesOf (editsOf numbers) bytes))
     (whole : WholeEdits numbers bytes) where
+  abbrev edits : List Edit
+  edits = editsOf numbers
+
+  in-order : Ordered (length (payloadOf s words len)) 0 edits
+  in-order = ordered (length (payloadOf s words len)) edits bytes (fits .apart)
+
+  put : allBytes (patchesOf edits bytes) ≡ lengths edits
+  put = all-put edits bytes (omega (arith, whole .sum))
+
   good-list : badList (length (payloadOf s words len)) (length bytes) numbers ≡ false
   good-list =
-      let edits : List Edit = editsOf numbers in
-      let patches : List Patch = patchesOf edits bytes in
-      let old : List ℕ = payloadOf s words len in
-      let most : length old + allBytes patches ≤ 53248 = fits-small dense fits in
-      let put : allBytes patches ≡ lengths edits = all-put edits bytes (omega (arith, whole .sum)) in
-      let good : someBad (length old) edits ≡ false =
-      none-bad (length old) edits bytes (omega arith) (omega arith) (λ i h. (fits .apart .forward i h, to-le old patches (fits .apart) i h))
-      in
+      let most = fits-small dense fits in
+      let good = none-bad (length (payloadOf s words len)) 0 edits in-order (omega arith) (omega (arith, put)) in
       rw (eq-eqb (length numbers % perEdit) 0 (whole .edits), good, eq-eqb (length bytes) (lengths edits) (whole .sum))
 
   pub all-accepted : spliceAll s words len numbers bytes
@@ -223,10 +230,9 @@ module _ {s : Shape} (dense : Dense s) (words : List ℕ) (len : ℕ) (numbers b
   unfolding spliceAll
   all-accepted =
       let old : List ℕ = payloadOf s words len in
-      let patches : List Patch = patchesOf (editsOf numbers) bytes in
-      let clear : someOverlap 0 (editsOf numbers) ≡ false =
-      overlap-free 0 (editsOf numbers) bytes (λ i h. rw (end-before patches i) at (fits .apart .after i h))
+      let new : List ℕ = replaced old (patchesOf edits bytes) in
+      let size : length new ≤ length old + allBytes (patchesOf edits bytes) =
+      omega (arith, put, length-replaced edits old bytes (fits .apart) (omega (arith, whole .sum)))
       in
-      let size : length (replaced old patches) ≤ length old + allBytes patches = omega (arith, size-replaced old patches (fits .apart)) in
-      let room : wordsFor s (length (replaced old patches)) ≤ length words = le-trans (words-mono s _ _ size) (fits .room) in
-      rw (fits .passes, good-list, clear, le-ltb (length words) (wordsFor s (length (replaced old patches))) room)
+      let room : wordsFor s (length new) ≤ length words = le-trans (words-mono s _ _ size) (fits .room) in
+      rw (fits .passes, good-list, overlap-free (length old) 0 edits in-order, le-ltb (length words) (wordsFor s (length new)) room)

@@ -1,10 +1,6 @@
 pub mod Laws
 pub mod Lists
 pub mod Apart
-pub mod Staged
-pub mod Passes
-pub mod Again
-pub mod Turns
 pub mod Whole
 pub mod Walking
 pub mod Once

@@ -1,74 +1,54 @@
 -- A list of edits lent as numbers, passed one by one. Assumes nothing.
 use mathlib.Core.Path.{_≡_, refl, sym, ap, _∙_}
 use mathlib.Core.Bool.{Bool, true, false, not, _||_}
-use mathlib.Core.List.{List, [], _∷_}
+use mathlib.Core.List.{List, _∷_}
 use Prim.Native.Nat.{ℕ, zero, suc, _+_, _-_, _/_, _%_, _≤_, _<_}
-use native.Mathlib.Numerals.{add-one}
 use native.Mathlib.Omega.{arith}
 use lib.Dec.{eqb, ltb}
 use lib.ListN.{length}
 use borrow.Author.Tests.{le-ltb, lt-ltb, ltb-false, eq-eqb, ne-eqb, eqb-true, not-false}
 use Rattle.refusal.specs.Answer.{Answer, gives, refused, _▷_, guard}
 use Rattle.refusal.proofs.Laws.{never-refused}
-use Rattle.ump.specs.Edits.{Edit, badEdit, lengths, someBad, someOverlap, perEdit, editIn, editsFrom, editsOf, badList}
+use Rattle.ump.specs.Edits.{Edit, badEdit, lengths, someBad, someOverlap, perEdit, editIn, editsOf, badList}
+use Rattle.ump.proofs.Checks.{or-left, or-right}
+use Rattle.splice.specs.Merging.{widths}
+use Rattle.splice.proofs.Turning.{rest, rest-all, rest-end, rest-step}
 use Rattle.edit.specs.Growth.{Sound}
-use Rattle.edit.specs.Listed.{widths, sizeAfter, listed}
+use Rattle.edit.specs.Listed.{sizeAfter, listed}
 use Rattle.edit.proofs.Laws.{sound-has}
-
--- the edits from edit i on
-abbrev pub rest : List ℕ → ℕ → List Edit
-rest numbers i = editsFrom numbers i (length numbers / perEdit - i)
-
-pub rest-end : (numbers : List ℕ) (i : ℕ) → length numbers / perEdit ≤ i → rest numbers i ≡ []
-unfolding editsFrom
-rest-end numbers i h = let q : length numbers / perEdit - i ≡ 0 = omega arith in rw q
-
-pub rest-all : (numbers : List ℕ) → editsOf numbers ≡ rest numbers 0
-rest-all numbers = let q : length numbers / perEdit - 0 ≡ length numbers / perEdit = omega arith in rw q
-
--- a test of two parts fails
-or-false : (a b : Bool) → (a || b) ≡ false → (a ≡ false) × (b ≡ false)
-or-false true b e = let z : _≡_ {A = ℕ} 0 1 = cc in absurd (omega arith)
-or-false false b e = (refl, e)
 
 pub bad-none : (n : ℕ) (e : Edit) (es : List Edit) → someBad n (e ∷ es) ≡ false → Sound e × (e .to ≤ n) × (someBad n es ≡ false)
 bad-none n e es h =
-    let p = or-false _ (someBad n es) h in
-    let q = or-false (badEdit e) _ (p .0) in
-    (sound-has e (q .0), ltb-false n (e .to) (q .1), p .1)
+    let past = ltb n (e .to) in
+    let q = or-left (badEdit e || past) (someBad n es) h in
+    (sound-has e (or-left (badEdit e) past q), ltb-false n (e .to) (or-right (badEdit e) past q), or-right (badEdit e || past) (someBad n es) h)
 
 pub overlap-none : (end : ℕ) (e : Edit) (es : List Edit) → someOverlap end (e ∷ es) ≡ false → (end ≤ e .from) × (someOverlap (e .to) es ≡ false)
-overlap-none end e es h =
-    let p = or-false (ltb (e .from) end) (someOverlap (e .to) es) h in
-    (ltb-false (e .from) end (p .0), p .1)
+overlap-none end e es h = (ltb-false (e .from) end (or-left _ _ h), or-right (ltb (e .from) end) _ h)
 
 -- ---- edit i, and those behind it
 
 module _ (numbers : List ℕ) (i : ℕ) (h : i < length numbers / perEdit) {e : Edit} (q : e ≡ editIn numbers i) where
-  pub rest-step : rest numbers i ≡ e ∷ rest numbers (i + 1)
-  unfolding editsFrom
-  rest-step =
-      let n = length numbers / perEdit - suc i in
-      let s : length numbers / perEdit - i ≡ suc n = omega arith in
-      rw (s, add-one i, q)
+  pub rest-here : rest numbers i ≡ e ∷ rest numbers (i + 1)
+  rest-here = rw q (rest-step numbers i h)
 
   pub bad-here : (n : ℕ) → badEdit e ≡ true → true ≡ someBad n (rest numbers i)
-  bad-here n b = rw (rest-step, b)
+  bad-here n b = rw (rest-here, b)
 
   pub bad-past : (n : ℕ) → badEdit e ≡ false → n < e .to → true ≡ someBad n (rest numbers i)
-  bad-past n b k = rw (rest-step, b, lt-ltb n (e .to) k)
+  bad-past n b k = rw (rest-here, b, lt-ltb n (e .to) k)
 
   pub bad-on : (n : ℕ) → badEdit e ≡ false → e .to ≤ n → someBad n (rest numbers i) ≡ someBad n (rest numbers (i + 1))
-  bad-on n b k = rw (rest-step, b, le-ltb n (e .to) k)
+  bad-on n b k = rw (rest-here, b, le-ltb n (e .to) k)
 
   pub overlap-here : (end : ℕ) → e .from < end → true ≡ someOverlap end (rest numbers i)
-  overlap-here end k = rw (rest-step, lt-ltb (e .from) end k)
+  overlap-here end k = rw (rest-here, lt-ltb (e .from) end k)
 
   pub overlap-on : (end : ℕ) → end ≤ e .from → someOverlap end (rest numbers i) ≡ someOverlap (e .to) (rest numbers (i + 1))
-  overlap-on end k = rw (rest-step, le-ltb (e .from) end k)
+  overlap-on end k = rw (rest-here, le-ltb (e .from) end k)
 
-  pub lengths-on : lengths (rest numbers i) ≡ e .length + lengths (rest numbers (i + 1))
-  lengths-on = rw rest-step
+  lengths-on : lengths (rest numbers i) ≡ e .length + lengths (rest numbers (i + 1))
+  lengths-on = rw rest-here
 
 -- ---- what a loop over the edits knows at edit i
 
@@ -119,10 +99,10 @@ kept-none numbers n g o =
 module _ {numbers : List ℕ} {n kept end i : ℕ} (k : Kept numbers n kept end i) where
   module _ {e : Edit} (h : i < length numbers / perEdit) (q : e ≡ editIn numbers i) where
     bad : Sound e × (e .to ≤ n) × (someBad n (rest numbers (i + 1)) ≡ false)
-    bad = bad-none n e (rest numbers (i + 1)) (rw (rest-step numbers i h q) at (k .good))
+    bad = bad-none n e (rest numbers (i + 1)) (rw (rest-here numbers i h q) at (k .good))
 
     overlap : (end ≤ e .from) × (someOverlap (e .to) (rest numbers (i + 1)) ≡ false)
-    overlap = overlap-none end e (rest numbers (i + 1)) (rw (rest-step numbers i h q) at (k .apart))
+    overlap = overlap-none end e (rest numbers (i + 1)) (rw (rest-here numbers i h q) at (k .apart))
 
     pub kept-after : end ≤ e .from
     kept-after = overlap .0
@@ -131,6 +111,7 @@ module _ {numbers : List ℕ} {n kept end i : ℕ} (k : Kept numbers n kept end 
     kept-inside = omega (arith, bad .0 .forward, bad .1)
 
     pub kept-on : Kept numbers n (kept + (e .from - end)) (e .to) (i + 1)
+    unfolding widths
     kept-on =
         let f = bad .0 .forward in
         let a = overlap .0 in
@@ -139,11 +120,12 @@ module _ {numbers : List ℕ} {n kept end i : ℕ} (k : Kept numbers n kept end 
           inside = bad .1;
           good = bad .2;
           apart = overlap .1;
-          between = omega (arith, k .between, ap widths (rest-step numbers i h q));
+          between = omega (arith, k .between, ap widths (rest-here numbers i h q));
           few = omega (arith, k .few);
         }
 
   pub kept-end : length numbers / perEdit ≤ i → (n ≡ kept + (n - end) + widths (editsOf numbers))
+  unfolding widths
   kept-end h = omega (arith, k .inside, k .between, ap widths (rest-end numbers i h))
 
 -- ---- the checks of a list, case by case
@@ -175,9 +157,15 @@ module _ (n bytes : ℕ) (numbers : List ℕ) where
         unfolding listed
         list-given d = rw (eq-eqb (length numbers % perEdit) 0 a, b, c, d)
 
+-- a list that is not bad
+pub list-good : (n bytes : ℕ) (numbers : List ℕ) → badList n bytes numbers ≡ false → (someBad n (editsOf numbers) ≡ false) × (bytes ≡ lengths (editsOf numbers))
+list-good n bytes numbers e =
+    let bad = or-right (not (eqb (length numbers % perEdit) 0)) _ e in
+    (or-left (someBad n (editsOf numbers)) _ bad, same-bytes _ _ (or-right (someBad n (editsOf numbers)) _ bad))
+
 -- the checks passed
 pub record Passing (n bytes : ℕ) (numbers : List ℕ) (size : ℕ) : Type 0 where
-  pub whole : length numbers % perEdit ≡ 0
+  pub fine : badList n bytes numbers ≡ false
   pub good : someBad n (editsOf numbers) ≡ false
   pub all-bytes : bytes ≡ lengths (editsOf numbers)
   pub apart : someOverlap 0 (editsOf numbers) ≡ false
@@ -192,13 +180,12 @@ unfolding listed
 list-passes n bytes numbers e =
     let given : Answer ℕ = gives (sizeAfter n (editsOf numbers)) in
     let range = guard-pass (badList n bytes numbers) 13 (guard (someOverlap 0 (editsOf numbers)) 20 0 ▷ given) e in
-    let ragged = or-false (not (eqb (length numbers % perEdit) 0)) _ (range .0) in
-    let bad = or-false (someBad n (editsOf numbers)) _ (ragged .1) in
+    let all = list-good n bytes numbers (range .0) in
     let overlap = guard-pass (someOverlap 0 (editsOf numbers)) 20 given (range .1) in
     record {
-      whole = same-bytes _ _ (ragged .0);
-      good = bad .0;
-      all-bytes = same-bytes _ _ (bad .1);
+      fine = range .0;
+      good = all .0;
+      all-bytes = all .1;
       apart = overlap .0;
       sized = (cc);
     }

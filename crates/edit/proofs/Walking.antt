@@ -17,7 +17,8 @@ use Rattle.ump.specs.Runs.{Run, runFrom, runAt}
 use Rattle.ump.specs.Origin.{headerOctet, carried, dumpByte, editByte, filler, zeroed, untouched, beginning, originOf, originIn, origin}
 use Rattle.ump.proofs.Asking.{asked-past, asked-lent}
 use Rattle.ump.proofs.Runs.{run-tail, run-past, run-gap, run-within, run-later}
-use Rattle.edit.proofs.Lists.{rest, rest-all, rest-end, rest-step, Kept, kept-none, kept-on}
+use Rattle.splice.proofs.Turning.{rest, rest-all, rest-end}
+use Rattle.edit.proofs.Lists.{rest-here, Kept, kept-none, kept-on}
 
 -- the walk for byte i of a payload of n bytes has come to edit `index`: the edit before it ends at `end`, and behind that the byte
 -- stands at `left`
@@ -41,7 +42,7 @@ begins e = sym (ap (λ (r : Run). gives (beginning r)) e)
 module _ {numbers : List ℕ} {n i end left index : ℕ} (w : Walk numbers n i end left index) where
   module _ {e : Edit} (h : index < length numbers / perEdit) (q : e ≡ editIn numbers index) where
     step : runAt n (editsOf numbers) i ≡ runFrom n end index (e ∷ rest numbers (index + 1)) left
-    step = rw (rest-step numbers index h q) at (w .same)
+    step = rw (rest-here numbers index h q) at (w .same)
 
     pub walk-gap : left < e .from - end → gives (carried (dumpByte (end + left))) ≡ gives (beginning (runAt n (editsOf numbers) i))
     walk-gap l = begins (step ∙ run-gap n end index left e (rest numbers (index + 1)) l)

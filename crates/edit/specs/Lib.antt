@@ -2,4 +2,3 @@
 pub mod Meaning
 pub mod Growth
 pub mod Listed
-pub mod Passes

@@ -1,14 +1,10 @@
 -- The checks of a list of edits lent as numbers, and the size of the result.
 -- Assumes nothing.
-use mathlib.Core.List.{List, [], _∷_}
+use mathlib.Core.List.{List}
 use Prim.Native.Nat.{ℕ, _+_, _-_}
 use Rattle.refusal.specs.Answer.{Answer, gives, _▷_, guard}
 use Rattle.ump.specs.Edits.{Edit, editsOf, lengths, badList, someOverlap}
-
--- bytes that edits take out
-abbrev pub widths : List Edit → ℕ
-widths [] = 0
-widths (edit ∷ edits) = (edit .to - edit .from) + widths edits
+use Rattle.splice.specs.Merging.{widths}
 
 -- the size of a payload of n bytes with all ranges replaced
 abbrev pub sizeAfter : ℕ → List Edit → ℕ

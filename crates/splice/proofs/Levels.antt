@@ -5,58 +5,31 @@ use Prim.Native.Nat.{ℕ, zero, suc, _+_, _-_, _*_, _/_, _%_, _≤_, _<_}
 use native.Mathlib.Omega.{arith}
 use lib.ListN.{length, getD}
 use Rattle.ump.specs.Packet.{sysex8, sizeAt, joined, payload}
-use Rattle.ump.specs.Check.{payloadOf}
 use Rattle.ump.proofs.First.{Side, under, over, side}
 use Rattle.ump.proofs.Message.{length-payload}
-use Rattle.ump.proofs.Payload.{payload-more, payload-at}
+use Rattle.ump.proofs.Payload.{payload-more}
 use Rattle.splice.specs.Accepted.{Accepted, Full}
-use Rattle.splice.specs.Places.{place, packedByte}
-use Rattle.splice.proofs.Standing.{quarters}
 use Rattle.splice.proofs.Messages.{inside, there, counts, size-is}
 
-module _ (w : List ℕ) (len n : ℕ) (ok : Accepted w len n) (full : Full w len) where
-  length-full : (s : ℕ) → s < len / 4 → length (payload sysex8 w s) ≡ 13 * s
+module _ {w : List ℕ} {len n : ℕ} (ok : Accepted w len n) (full : Full w len) where
+  pub length-full : (s : ℕ) → s < len / 4 → length (payload sysex8 w s) ≡ 13 * s
   unfolding payload joined
   length-full zero h = refl
   length-full (suc s) h =
-      omega (arith, payload-more sysex8 w s (there w len n ok s (omega arith)), full s (omega arith), length-full s (omega arith))
-
-  byte-place : (i s b : ℕ) → s < len / 4 → b < sizeAt sysex8 w s → b < 13 → i ≡ 13 * s + b → getD (payloadOf sysex8 w len) i 0 ≡ packedByte w i
-  unfolding packedByte
-  byte-place i s b h l c e =
-      let p : place i ≡ 4 * (4 * s + (b + 3) / 4) + (b + 3) % 4 = omega arith in
-      let q = quarters (place i) (4 * s + (b + 3) / 4) ((b + 3) % 4) (omega arith) p in
-      let z : i ≡ length (payload sysex8 w s) + b = omega (arith, length-full s h) in
-      rw (q .0, q .1) (ap (λ (x : ℕ). getD (payloadOf sysex8 w len) x 0) z ∙ payload-at sysex8 w s (len / 4) b h (there w len n ok s h) l)
-
-  pub level : (i : ℕ) → i < length (payloadOf sysex8 w len) → getD (payloadOf sysex8 w len) i 0 ≡ packedByte w i
-  level i h = go (side i (13 * (len / 4 - 1)))
-    where
-      go : Side i (13 * (len / 4 - 1)) → getD (payloadOf sysex8 w len) i 0 ≡ packedByte w i
-      go (under l _) =
-          let f : sizeAt sysex8 w (i / 13) ≡ 13 = full (i / 13) (omega arith) in
-          byte-place i (i / 13) (i % 13) (omega arith) (omega arith) (omega arith) (omega arith)
-      go (over l _) =
-          let some : 0 < len / 4 = inside w len n ok .1 .1 .1 in
-          let last = len / 4 - 1 in
-          let one : len / 4 ≡ suc last = omega arith in
-          let m : length (payloadOf sysex8 w len) ≡ length (payload sysex8 w last) + sizeAt sysex8 w last =
-          ap (λ (x : ℕ). length (payload sysex8 w x)) one ∙ payload-more sysex8 w last (there w len n ok last (omega arith)) in
-          let cap : sizeAt sysex8 w last ≤ 13 = omega (arith, size-is w len n ok last (omega arith), counts w len n ok last (omega arith)) in
-          byte-place i last (i - 13 * last) (omega arith) (omega (arith, m, length-full last (omega arith))) (omega (arith, m, length-full last (omega arith))) (omega arith)
+      omega (arith, payload-more sysex8 w s (there ok s (omega arith)), full s (omega arith), length-full s (omega arith))
 
 -- ---- when all but the last packet are full
 
-module _ (w : List ℕ) (len n : ℕ) (ok : Accepted w len n) where
+module _ {w : List ℕ} {len n : ℕ} (ok : Accepted w len n) where
   full-below : (m : ℕ) → m ≤ len / 4 → length (payload sysex8 w m) ≡ 13 * m → (p : ℕ) → p < m → sizeAt sysex8 w p ≡ 13
   full-below zero h e p l = absurd (omega arith)
   full-below (suc m) h e p l = go (side p m) (full-below m)
     where
       cap : sizeAt sysex8 w m ≤ 13
-      cap = omega (arith, size-is w len n ok m (omega arith), counts w len n ok m (omega arith))
+      cap = omega (arith, size-is ok m (omega arith), counts ok m (omega arith))
 
       both : (length (payload sysex8 w m) ≡ 13 * m) × (sizeAt sysex8 w m ≡ 13)
-      both = omega (arith, cap, payload-more sysex8 w m (there w len n ok m (omega arith)), length-payload sysex8 w m)
+      both = omega (arith, cap, payload-more sysex8 w m (there ok m (omega arith)), length-payload sysex8 w m)
 
       go : Side p m → (m ≤ len / 4 → length (payload sysex8 w m) ≡ 13 * m → (q : ℕ) → q < m → sizeAt sysex8 w q ≡ 13) → sizeAt sysex8 w p ≡ 13
       go (under k _) rest = rest (omega arith) (both .0) p k
@@ -69,8 +42,8 @@ module _ (w : List ℕ) (len n : ℕ) (ok : Accepted w len n) where
   full-is last e s p h =
       let top = len / 4 - 1 in
       let one : len / 4 ≡ suc top = omega arith in
-      let at : len - 4 ≡ 4 * top = omega (arith, inside w len n ok) in
-      let l : sizeAt sysex8 w top ≡ last = size-is w len n ok top (omega arith) ∙ sym (rw at at e) in
+      let at : len - 4 ≡ 4 * top = omega (arith, inside ok) in
+      let l : sizeAt sysex8 w top ≡ last = size-is ok top (omega arith) ∙ sym (rw at at e) in
       let m : length (payload sysex8 w (len / 4)) ≡ length (payload sysex8 w top) + sizeAt sysex8 w top =
-      ap (λ (x : ℕ). length (payload sysex8 w x)) one ∙ payload-more sysex8 w top (there w len n ok top (omega arith)) in
+      ap (λ (x : ℕ). length (payload sysex8 w x)) one ∙ payload-more sysex8 w top (there ok top (omega arith)) in
       full-below top (omega arith) (omega (arith, ok .sized)) p (omega arith)

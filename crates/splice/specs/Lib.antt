@@ -1,8 +1,9 @@
 -- What the answers mean, and names for what the loops leave.
 pub mod Meaning
-pub mod Seam
+pub mod Zeros
 pub mod Header
-pub mod Places
-pub mod Pushing
 pub mod Accepted
 pub mod Splices
+pub mod Thirteens
+pub mod Pieces
+pub mod Merging

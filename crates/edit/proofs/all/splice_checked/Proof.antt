@@ -11,51 +11,35 @@ use Rattle.refusal.specs.Meaning.{faultOf}
 use Rattle.refusal.specs.declared.Fault.{Fault}
 use Rattle.ump.specs.Packet.{sysex8}
 use Rattle.ump.specs.Packing.{wordsFor}
-use Rattle.ump.specs.Check.{payloadOf}
 use Rattle.ump.specs.Splice.{Spliced}
 use Rattle.ump.proofs.Signed.{growth-is}
-use Rattle.splice.proofs.Numbers.{words-number}
+use Rattle.splice.proofs.Lengths.{words-number}
 use Rattle.splice.proofs.Messages.{inside, size-fits}
 use Rattle.edit.specs.Growth.{Sound}
 use Rattle.edit.specs.Meaning.{listedMeaning}
 use Rattle.edit.specs.Listed.{listed}
-use Rattle.edit.specs.Passes.{Possible}
 use Rattle.edit.proofs.Laws.{growth-held}
-use Rattle.edit.proofs.Whole.{all-listed, all-room, all-done}
+use Rattle.edit.proofs.Whole.{all-listed, all-room, can-replace, all-done}
 use Rattle.edit.proofs.all.splice_checked.Statement.{statement}
 use Rattle.edit.proofs.all.splice_checked.Tie as tie
 
 -- a payload that passed the check is no larger than any message holds
 small : (d : tie.Start) → d .args .size ≤ 53248
-small d = omega (arith, inside _ _ _ (d .pre), size-fits _ _ _ (d .pre))
+small d = omega (arith, inside (d .pre), size-fits (d .pre))
 
 abbrev start : tie.After-words-needed → tie.Start
 start c = c .before .before .before .before .before .before .before .before
 
 -- the list passed
 given : (c : tie.After-words-needed) → let a = start c .args in
-    listed (length (payloadOf sysex8 (a .words .now) (a .length))) (length (a .bytes .now)) (a .numbers .now) ≡ gives (c .before .before .listed2 .given .0 .0)
-given c =
-    let k = c .before .before .before .before in
-    ap (λ (n : ℕ). listed n (length (start c .args .bytes .now)) (start c .args .numbers .now)) (sym (start c .pre .sized))
-    ∙ sym (k .check-list .ensures)
-    ∙ ap listedMeaning (c .before .before .listed2 .given .1)
+    listed (a .size) (length (a .bytes .now)) (a .numbers .now) ≡ gives (c .before .before .listed2 .given .0 .0)
+given c = sym (c .before .before .before .before .check-list .ensures) ∙ ap listedMeaning (c .before .before .listed2 .given .1)
 
 room : (c : tie.Else1) → wordsFor sysex8 (c .before .before .before .listed2 .given .0 .0) ≤ length (start (c .before) .args .words .now)
 room c = rw (c .before .words-needed .ensures) at (c .if1 .left)
 
 total-small : (c : tie.Else1) → c .before .before .before .listed2 .given .0 .0 ≤ 53248
-total-small c = omega (arith, room c, words-number (c .before .before .before .listed2 .given .0 .0), inside _ _ _ (start (c .before) .pre))
-
-possible : (c : tie.Else1) → let a = start (c .before) .args in Possible (a .words .now) (a .length) (a .numbers .now) (a .bytes .now)
-possible c =
-    record {
-      size = c .before .before .before .listed2 .given .0 .0;
-      passes = start (c .before) .pre .passes;
-      listing = given (c .before);
-      room = room c;
-      small = λ i. omega (arith, c .before .before .before .before .before .before .shared-slice-known2 .given i);
-    }
+total-small c = omega (arith, room c, words-number (c .before .before .before .listed2 .given .0 .0), inside (start (c .before) .pre))
 
 -- the growth of the whole
 sound : (c : tie.Else1) → Sound (record { from = 0; to = start (c .before) .args .size; length = c .before .before .before .listed2 .given .0 .0 })
@@ -66,16 +50,12 @@ returns c =
     let n = c .before .before in
     let d = start n in
     ap (λ (f : Fault). (faultOf {A = Spliced} f, d .args .words .now)) (c .fault .ensures)
-    ∙ all-room _ _ _ _ (d .pre .passes) (given n) (rw (n .words-needed .ensures) at (c .before .if1 .taken))
+    ∙ all-room _ _ _ _ (d .pre) (given n) (rw (n .words-needed .ensures) at (c .before .if1 .taken))
 
 returns-2 : tie.Need-returns-2
 returns-2 c =
     let k = c .before .before .before in
-    let d = k .before .before .before .before in
-    all-listed _ _ _ _ (d .pre .passes)
-    (ap (λ (n : ℕ). listed n (length (d .args .bytes .now)) (d .args .numbers .now)) (sym (d .pre .sized))
-    ∙ sym (k .check-list .ensures)
-    ∙ ap listedMeaning (c .before .listed .given .1))
+    all-listed _ _ _ _ (k .before .before .before .before .pre) (sym (k .check-list .ensures) ∙ ap listedMeaning (c .before .listed .given .1))
 
 returns-3 : tie.Need-returns-3
 returns-3 c =
@@ -83,11 +63,12 @@ returns-3 c =
     let e = a .before .before in
     let n = e .before in
     let d = start n in
-    all-done _ _ _ _ (d .pre .passes) (given n) (room e) (n .words-needed .ensures)
+    let total = n .before .before .listed2 .given .0 .0 in
+    all-done _ _ _ _ (d .pre) (given n) (room e) (n .words-needed .ensures)
     (growth-held _ (sound e) (c .growth-of .ensures)
-    ∙ growth-is 0 (d .args .size) (n .before .before .listed2 .given .0 .0) (omega arith)
-    ∙ ap (λ (m : ℕ). pos (n .before .before .listed2 .given .0 .0) -ℤ pos m) (sub-zero (d .args .size) ∙ d .pre .sized))
-    (a .do-all .ensures)
+    ∙ growth-is 0 (d .args .size) total (omega arith)
+    ∙ ap (λ (m : ℕ). pos total -ℤ pos m) (sub-zero (d .args .size)))
+    (a .replace-all .ensures)
 
 pub splice-checked-spec : {M : Type 1} → statement M
 splice-checked-spec =
@@ -99,7 +80,7 @@ splice-checked-spec =
     (λ c κs. search needs)
     (λ c κs. search needs)
     returns
-    (λ c κs. (possible (c .before), start (c .before .before) .pre))
+    (λ c κs. can-replace _ _ _ _ (start (c .before .before) .pre) (given (c .before .before)) (room (c .before)))
     (λ c κs. sound (c .before .before .before .before))
     returns-2
     (λ c. search needs)

@@ -4,7 +4,7 @@ use mathlib.Core.Path.{_≡_}
 use Prim.Native.Nat.{_+_, _-_, _≤_}
 use native.Mathlib.Omega.{arith}
 use Rattle.ump.specs.Edits.{editsOf}
-use Rattle.edit.specs.Listed.{widths}
+use Rattle.splice.specs.Merging.{widths}
 use Rattle.edit.proofs.Lists.{Kept, kept-none, kept-after, kept-inside, kept-on, kept-end}
 use Rattle.edit.proofs.listed.size_after.Statement.{statement}
 use Rattle.edit.proofs.listed.size_after.Tie as tie

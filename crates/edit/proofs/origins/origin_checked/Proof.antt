@@ -1,7 +1,6 @@
 -- `edit::origins::origin_checked`: the checks of the list, Room, and each part of the words lent. Assumes nothing.
 use borrow.Author.Needs.{needs}
 use mathlib.Core.Path.{_≡_, sym, ap, _∙_}
-use Prim.Native.Nat.{ℕ}
 use native.Mathlib.Omega.{arith}
 use lib.ListN.{length}
 use Rattle.refusal.specs.Answer.{gives, pass}
@@ -20,40 +19,29 @@ use Rattle.edit.proofs.Walking.{origin-behind, origin-message, origin-z
 use Rattle.edit.proofs.origins.origin_checked.Statement.{statement}
 use Rattle.edit.proofs.origins.origin_checked.Tie as tie
 
--- what the checks of the list say, of the message's own size
-given : (c : tie.After-check-list) → let a = c .before .before .before .before .args in
-    listed (length (payloadOf sysex8 (a .words .now) (a .length))) (length (a .bytes .now)) (a .numbers .now) ≡ listedMeaning (c .check-list .result)
-given c =
-    let d = c .before .before .before .before in
-    ap (λ (n : ℕ). listed n (length (d .args .bytes .now)) (d .args .numbers .now)) (sym (d .pre .sized)) ∙ sym (c .check-list .ensures)
-
--- ---- the list passed
-
 abbrev start : tie.After-words-needed → tie.Start
 start c = c .before .before .before .before .before .before .before .before
 
-listing : (c : tie.After-words-needed) → let a = start c .args in
-    listed (length (payloadOf sysex8 (a .words .now) (a .length))) (length (a .bytes .now)) (a .numbers .now) ≡ gives (c .before .before .listed2 .given .0 .0)
-listing c = given (c .before .before .before .before) ∙ ap listedMeaning (c .before .before .listed2 .given .1)
+-- the list passed
+given : (c : tie.After-words-needed) → let a = start c .args in
+    listed (a .size) (length (a .bytes .now)) (a .numbers .now) ≡ gives (c .before .before .listed2 .given .0 .0)
+given c = sym (c .before .before .before .before .check-list .ensures) ∙ ap listedMeaning (c .before .before .listed2 .given .1)
 
 passes : (c : tie.Else1) → let a = start (c .before) .args in allChecks sysex8 (a .words .now) (a .length) (a .numbers .now) (a .bytes .now) ≡ pass
 passes c =
     let n = c .before in
     let d = start n in
-    checks-pass _ _ (d .args .numbers .now) (d .args .bytes .now) (d .pre .passes) (listing n) (rw (n .words-needed .ensures) at (c .if1 .left))
+    checks-pass _ _ (d .args .numbers .now) (d .args .bytes .now) (d .pre) (given n) (rw (n .words-needed .ensures) at (c .if1 .left))
 
 needed : (c : tie.After-words-needed) → let a = start c .args in
     c .words-needed .result ≡ wordsFor sysex8 (length (replaced (payloadOf sysex8 (a .words .now) (a .length)) (patchesOf (editsOf (a .numbers .now)) (a .bytes .now))))
-needed c = c .words-needed .ensures ∙ sym (ap (wordsFor sysex8) (new-sized _ _ _ _ (start c .pre .passes) (listing c)))
+needed c = c .words-needed .ensures ∙ sym (ap (wordsFor sysex8) (new-sized _ _ _ _ (start c .pre) (given c)))
 
 octet-origin-requires : tie.Need-octet-origin-requires
 octet-origin-requires c κs =
-    let e = c .before .before in
-    let n = e .before in
-    let d = start n in
-    let k = n .before .before .before .before in
-    let l = list-passes (d .args .size) _ _ (sym (k .check-list .ensures) ∙ ap listedMeaning (n .before .before .listed2 .given .1)) in
-    (l .good, l .apart, omega (arith, inside _ _ _ (d .pre), c .before .if2 .left))
+    let n = c .before .before .before in
+    let l = list-passes _ _ _ (given n) in
+    (l .good, l .apart, omega (arith, inside (start n .pre), c .before .if2 .left))
 
 returns : tie.Need-returns
 returns c =
@@ -61,7 +49,7 @@ returns c =
     let d = start n in
     ap faultOf (c .fault .ensures)
     ∙ asked-refused _ _ _ _ _ _
-    (checks-room _ _ (d .args .numbers .now) (d .args .bytes .now) (d .pre .passes) (listing n) (rw (n .words-needed .ensures) at (c .before .if1 .taken)))
+    (checks-room _ _ (d .args .numbers .now) (d .args .bytes .now) (d .pre) (given n) (rw (n .words-needed .ensures) at (c .before .if1 .taken)))
 
 returns-2 : tie.Need-returns-2
 returns-2 c = ap faultOf (c .fault2 .ensures) ∙ origin-behind _ _ _ _ _ (passes (c .before .before)) (c .before .if2 .taken)
@@ -84,7 +72,7 @@ returns-5 c =
     let k = c .before .before .before in
     let d = k .before .before .before .before in
     asked-refused _ _ _ _ _ _
-    (checks-listed _ _ (d .args .numbers .now) (d .args .bytes .now) (d .pre .passes) (given k ∙ ap listedMeaning (c .before .listed .given .1)))
+    (checks-listed _ _ (d .args .numbers .now) (d .args .bytes .now) (d .pre) (sym (k .check-list .ensures) ∙ ap listedMeaning (c .before .listed .given .1)))
 
 returns-6 : tie.Need-returns-6
 returns-6 c =
@@ -96,7 +84,7 @@ pub origin-checked-spec : {M : Type 1} → statement M
 origin-checked-spec =
     tie.close
     (tie.spec
-    (λ c κs. let d = c .before .before .before in omega (arith, inside _ _ _ (d .pre), size-fits _ _ _ (d .pre), d .good .1 .1 .1 .1 .0))
+    (λ c κs. let d = c .before .before .before in omega (arith, inside (d .pre), size-fits (d .pre), d .good .1 .1 .1 .1 .0))
     (λ c. search needs)
     (λ c. search needs)
     (λ c κs. search needs)

@@ -1,106 +1,82 @@
--- `pack` meets its contract: what is read has not been stored to yet, since the packed places stand no later. Assumes nothing.
-use mathlib.Core.Path.{_∙_}
-use Prim.Native.Nat.{_+_, _-_, _*_, _/_, _^_, _<_}
+-- `pack` meets its contract: the packets written and the bytes that wait are those of the packets read. Assumes nothing.
+use mathlib.Core.Path.{_≡_, refl, _∙_}
+use Prim.Native.Nat.{_-_, _/_, _^_, _≤_, _<_}
 use native.Mathlib.Omega.{arith}
 use lib.ListN.{getD}
 use borrow.Author.Needs.{needs}
-use Rattle.splice.proofs.Messages.{inside, counts}
-use Rattle.splice.proofs.Packs.{Bounds, bounds, Packs, pack-start, nearer, pad-step, skip-here, skip-first, skip-step, bytes-step, pack-end}
+use Rattle.splice.proofs.Messages.{inside}
+use Rattle.splice.proofs.Repacks.{Bounds, bounds, Repacks, repack-start, repack-ready, repack-step, repack-high, repack-end}
 use Rattle.splice.proofs.packing.pack.Statement.{statement}
 use Rattle.splice.proofs.packing.pack.Tie as tie
 
 abbrev Inv-loop : tie.InvT-loop
-Inv-loop words₀ length size base end packet₀ from₀ to₀ done₀ at₀ octets₀ words packet from to done at octets =
-    Bounds words₀ length size end base × Packs words₀ length size packet from to done at octets words
+Inv-loop words₀ length size base head end packets flow₀ packet₀ words flow packet =
+    Bounds words₀ length size base head end packets × ((packet ≤ packets) × Repacks words₀ length head packet flow words)
 
 abbrev μ-loop : tie.MeasureT-loop
-μ-loop words₀ length size base end packet₀ from₀ to₀ done₀ at₀ octets₀ words packet from to done at octets = (4 * end - at) + (length / 4 - packet)
+μ-loop words₀ length size base head end packets flow₀ packet₀ words flow packet = packets - packet
 
 slice-read-base-of : tie.Need-slice-read-base-of Inv-loop μ-loop
-slice-read-base-of c =
-    let st = c .before .before in
-    omega (arith, inside (st .args .words .now) (st .args .length) (st .args .size) (st .pre))
-
-slice-read-carried-by : tie.Need-slice-read-carried-by Inv-loop μ-loop
-slice-read-carried-by c =
-    let st = c .before .before .before .before .before in
-    omega (arith, inside (st .args .words .now) (st .args .length) (st .args .size) (st .pre))
-
-carried-by-requires : tie.Need-carried-by-requires Inv-loop μ-loop
-carried-by-requires c κs =
-    let st = c .before .before .before .before .before in
-    counts (st .args .words .now) (st .args .length) (st .args .size) (st .pre) 0 (inside (st .args .words .now) (st .args .length) (st .args .size) (st .pre) .1 .1 .1) .0
+slice-read-base-of c = omega (arith, inside (c .before .before .pre))
 
 loop-holds : tie.Need-loop-holds Inv-loop μ-loop
 loop-holds c =
-    let st = c .before .before .before .before .before .before in
-    let base = c .before .before .before .base-of in
-    let w = st .args .words .now in
-    let small : getD w 0 0 < 2 ^ 32 = omega (arith, c .before .before .before .before .slice-known2 .given 0) in (
-      bounds w (st .args .length) (st .args .size) (st .pre) _ _ (c .before .before .words-needed .ensures) (base .ensures) small,
-      pack-start w (st .args .length) (st .args .size) (st .pre) _ (omega (arith, c .carried-by .ensures)),
-    )
+    let st = c .before .before .before .before .before in
+    let x = st .args in
+    let small : getD (x .words .now) 0 0 < 2 ^ 32 = omega (arith, c .before .before .before .slice-known2 .given 0) in
+    (bounds (st .pre) _ _ _ _ (c .before .before .base-of .ensures) refl (c .before .words-needed .ensures) refl small, (omega arith, rw (c .nothing .ensures) (repack-start (st .pre) _)))
 
-loop-less : tie.Need-loop-less Inv-loop μ-loop
-loop-less c =
-    let l = c .before .before .before .before .before .before .before .loop in
-    nearer _ (l .at) (c .place-after .result) _ _ (c .before .before .before .before .before .before .loop-test .taken) (omega arith) (c .place-after .ensures)
+take-packet-requires : tie.Need-take-packet-requires Inv-loop μ-loop
+take-packet-requires c κs =
+    let st = c .before .before .before .before .before .before .before .before in
+    let l = c .before .before .loop in
+    let b = l .inv .0 in
+    repack-ready (st .pre) _ (l .packet) (l .flow) (l .words) (l .inv .1 .1) (omega (arith, b .whole)) (b .free)
 
 loop-again : tie.Need-loop-again Inv-loop μ-loop
 loop-again c =
-    let l = c .before .before .before .before .before .before .before .loop in
-    let st = c .before .before .before .before .before .before .before .before .before .before .before .before .before .before in
-    let push = c .before .before .before .push in (
-      l .inv .0,
-      rw (c .place-after .ensures, push .ensures .0, push .ensures .1)
-          (pad-step (st .args .words .now) (st .args .length) (st .args .size) (st .pre) _ _ _ _ _ _ (l .words) (l .inv .1) _ _ (l .inv .0 .shared) (omega arith) (omega arith) (omega (arith, l .inv .0 .ends)) (omega arith)),
-    )
-
-carried-by-requires-2 : tie.Need-carried-by-requires-2 Inv-loop μ-loop
-carried-by-requires-2 c κs =
-    let l = c .before .before .before .before .loop in
     let st = c .before .before .before .before .before .before .before .before .before .before .before in
-    let here = skip-here (st .args .words .now) (st .args .length) (st .args .size) (st .pre) _ _ _ _ _ _ (l .words) (l .inv .1) (omega arith) (omega arith) in
-    rw (skip-first (st .args .words .now) (st .args .length) (st .args .size) (st .pre) _ _ _ _ _ _ (l .words) (l .inv .1) (omega arith) (omega arith))
-    (counts (st .args .words .now) (st .args .length) (st .args .size) (st .pre) (l .packet + 1) here .0)
-
-slice-read-carried-by-2 : tie.Need-slice-read-carried-by-2 Inv-loop μ-loop
-slice-read-carried-by-2 c =
-    let l = c .before .before .before .before .loop in
-    let st = c .before .before .before .before .before .before .before .before .before .before .before in
-    omega (arith, skip-here (st .args .words .now) (st .args .length) (st .args .size) (st .pre) _ _ _ _ _ _ (l .words) (l .inv .1) (omega arith) (omega arith))
-
-loop-again-2 : tie.Need-loop-again-2 Inv-loop μ-loop
-loop-again-2 c =
     let l = c .before .before .before .before .before .loop in
-    let st = c .before .before .before .before .before .before .before .before .before .before .before .before in
-    (l .inv .0, skip-step (st .args .words .now) (st .args .length) (st .args .size) (st .pre) _ _ _ _ _ _ (l .words) (l .inv .1) _ (c .carried-by2 .ensures) (omega arith) (omega arith))
+    (l .inv .0, (omega arith, repack-step (st .pre) _ (l .packet) (l .flow) (l .words) (l .inv .1 .1) (omega (arith, l .inv .0 .whole)) _ _ (c .before .before .take-packet .ensures)))
 
-loop-less-3 : tie.Need-loop-less-3 Inv-loop μ-loop
-loop-less-3 c =
-    let l = c .before .before .before .before .before .before .before .before .before .before .before .loop in
-    nearer _ (l .at) (c .place-after2 .result) _ _ (c .before .before .before .before .before .before .before .before .before .before .loop-test .taken) (omega (arith, c .before .before .before .before .before .before .before .least .ensures)) (c .place-after2 .ensures)
-
-loop-again-3 : tie.Need-loop-again-3 Inv-loop μ-loop
-loop-again-3 c =
-    let l = c .before .before .before .before .before .before .before .before .before .before .before .loop in
-    let st = c .before .before .before .before .before .before .before .before .before .before .before .before .before .before .before .before .before .before in
-    let push = c .before .before .before .push2 in
-    let four = c .before .before .before .before .before .octets-from in
-    let least = c .before .before .before .before .before .before .before .least in (
-      l .inv .0,
-      rw (c .place-after2 .ensures, push .ensures .0, push .ensures .1)
-          (bytes-step (st .args .words .now) (st .args .length) (st .args .size) (st .pre) _ _ _ _ _ _ (l .words) (l .inv .1) _ _ _ (l .inv .0 .shared) (omega (arith, four .ok)) (omega (arith, least .ensures)) (omega (arith, least .ensures)) (omega (arith, l .inv .0 .ends)) (four .ensures) (omega arith) (omega (arith, least .ensures))),
+flush-requires : tie.Need-flush-requires Inv-loop μ-loop
+flush-requires c κs =
+    let l = c .before .before .loop in
+    let b = l .inv .0 in
+    let st = c .before .before .before .before .before .before .before .before in (
+      omega (arith, b .reach, b .room, b .small),
+      (omega (arith, b .reach, b .room, l .inv .1 .1 .flows .long), (repack-high (st .pre) _ (l .inv .1 .1), b .free)),
     )
+
+put-head-requires : tie.Need-put-head-requires Inv-loop μ-loop
+put-head-requires c κs =
+    let b = c .before .before .before .before .before .before .loop .inv .0 in
+    (b .fits, (b .end-is, (omega (arith, b .end-is), omega (arith, b .reach, b .room))))
+
+sub-put-head : tie.Need-sub-put-head Inv-loop μ-loop
+sub-put-head c = omega (arith, c .before .before .before .before .before .before .before .before .before .before .loop .inv .0 .end-is)
+
+put-head-requires-2 : tie.Need-put-head-requires-2 Inv-loop μ-loop
+put-head-requires-2 c κs =
+    let b = c .before .before .before .before .before .before .before .before .before .before .loop .inv .0 in
+    (b .fits, (b .end-is, (omega (arith, b .end-is), omega (arith, b .reach, b .room))))
+
+zero-requires : tie.Need-zero-requires Inv-loop μ-loop
+zero-requires c κs =
+    let b = c .before .before .before .before .before .before .before .before .before .before .before .before .before .before .loop .inv .0 in
+    (omega (arith, b .reach, b .room), omega (arith, b .room))
 
 returns : tie.Need-returns Inv-loop μ-loop
 returns c =
-    let l = c .before .before .before .before .before .loop in
-    let st = c .before .before .before .before .before .before .before .before .before .before .before .before in
-    let end = c .before .before .before .before .before .before .before .before .words-needed in (
-      end .ensures,
+    let flushed = c .before .before .before .before .before .before .before .before .before .before .before .before .before .before in
+    let l = flushed .before .before .before .loop in
+    let st = flushed .before .before .before .before .before .before .before .before .before in
+    let x = st .args in
+    let all : l .packet ≡ x .length / 4 = omega (arith, l .inv .1 .0) in (
+      l .inv .0 .ends,
       c .before .before .zero .ensures
-          ∙ pack-end (st .args .words .now) (st .args .length) (st .args .size) (st .pre) _ _ _ _ _ _ (l .words) (l .inv .1) (end .result) (l .inv .0 .ends) (omega arith),
+          ∙ rw (c .before .before .before .before .before .before .put-head2 .ensures, c .before .before .before .before .before .before .before .before .before .before .put-head .ensures)
+          (repack-end (st .pre) (l .inv .0) (rw all at (l .inv .1 .1)) _ (flushed .flush .ensures)),
     )
 
 pub pack-spec : {M : Type 1} → statement M
@@ -111,37 +87,18 @@ pack-spec =
     μ-loop
     slice-read-base-of
     (λ c κs. search needs)
+    (λ c. omega arith)
     (λ c κs. search needs)
-    slice-read-carried-by
-    carried-by-requires
-    (λ c. search needs)
+    (λ c κs. search needs)
     loop-holds
+    take-packet-requires
     (λ c. search needs)
     (λ c. search needs)
-    (λ c κs. search needs)
-    (λ c κs. search needs)
-    (λ c. search needs)
-    loop-less
     loop-again
-    (λ c. search needs)
-    (λ c. search needs)
-    (λ c. search needs)
-    (λ c. search needs)
-    (λ c. search needs)
-    slice-read-carried-by-2
-    carried-by-requires-2
-    (λ c. search needs)
-    (λ c. search needs)
-    loop-again-2
-    (λ c. search needs)
-    (λ c κs. search needs)
-    (λ c κs. search needs)
-    (λ c κs. search needs)
-    (λ c κs. search needs)
-    (λ c. search needs)
-    (λ c. search needs)
-    loop-less-3
-    loop-again-3
-    (λ c κs. search needs)
+    flush-requires
+    put-head-requires
+    sub-put-head
+    put-head-requires-2
+    zero-requires
     (λ c. search needs)
     returns)

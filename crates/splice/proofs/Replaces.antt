@@ -1,0 +1,69 @@
+-- All ranges of a list replaced: from the message that passed the check to the one that is written. Assumes nothing.
+use mathlib.Core.Path.{_≡_, refl, sym, ap, _∙_}
+use mathlib.Core.Bool.{true, false}
+use mathlib.Core.List.{List}
+use Prim.Native.Nat.{ℕ, _+_, _-_, _/_, _^_, _<_}
+use native.Mathlib.Omega.{arith}
+use lib.ListN.{length, getD}
+use Rattle.ump.specs.Word.{Below}
+use Rattle.ump.specs.Packet.{sysex8, groupAt, idAt}
+use Rattle.ump.specs.Packing.{wordsFor, pack}
+use Rattle.ump.specs.Check.{payloadOf}
+use Rattle.ump.specs.Splice.{rewritten}
+use Rattle.ump.specs.Edits.{editsOf, patchesOf, replaced}
+use Rattle.ump.proofs.Splicing.{below-payload}
+use Rattle.splice.specs.Accepted.{Filled}
+use Rattle.splice.specs.Header.{baseOf}
+use Rattle.splice.specs.Zeros.{zeroed}
+use Rattle.splice.specs.Merging.{packets, Listed, Lists, BeginsAll, EndsAll}
+use Rattle.splice.proofs.Lengths.{words-number}
+use Rattle.splice.proofs.Messages.{inside, end-fits, base-is}
+use Rattle.splice.proofs.Finished.{headed, finished}
+use Rattle.splice.proofs.Heading.{leveled, leveled-stands, leveled-stored, leveled-long}
+use Rattle.splice.proofs.Turning.{below-merged}
+use Rattle.splice.proofs.Passing.{all-merged}
+
+module _ {w us : List ℕ} {len size total filled : ℕ} {numbers bytes : List ℕ} (l : Listed w len size total numbers bytes) (f : Filled w len size us filled)
+    (small : (k : ℕ) → getD us k 0 < 2 ^ 32) (base : ℕ) (shared : base ≡ baseOf (getD us 0 0)) where
+  abbrev source : List ℕ
+  source = payloadOf sysex8 us filled
+
+  abbrev level : List ℕ
+  level = leveled (f .passed) (f .full) small base shared
+
+  base-small : base < 4278255361
+  base-small = omega (arith, small 0)
+
+  lists : Lists level (base + 3014656) size total numbers bytes source
+  lists =
+      let long : length level ≡ length w = leveled-long (f .passed) (f .full) small base shared ∙ f .long in
+      record {
+        sized = f .passed .sized;
+        stands = leveled-stands (f .passed) (f .full) small base shared;
+        below = below-payload sysex8 us (filled / 4);
+        apart = l .apart;
+        given = l .given;
+        result = l .sized ∙ ap (λ (p : List ℕ). length (replaced p (patchesOf (editsOf numbers) bytes))) (sym (f .carries));
+        held = omega (arith, words-number size, end-fits (f .passed), inside (f .passed), long, f .long);
+        needed = omega (arith, words-number total, l .room, long);
+        small = omega (arith, inside (f .passed), long, f .long);
+        free = omega (arith, base-small);
+        plain = omega arith;
+      }
+
+  pub replace-begins : BeginsAll level (base + 3014656) size total numbers bytes
+  replace-begins = record { source = source; lists = lists }
+
+  pub replace-ends : {vs : List ℕ} {end : ℕ} → Below 256 bytes → end ≡ wordsFor sysex8 total → EndsAll level (base + 3014656) size total numbers bytes vs
+      → zeroed (headed base total (headed base total vs 0) (end - 4)) end filled ≡ rewritten sysex8 w len (replaced (payloadOf sysex8 w len) (patchesOf (editsOf numbers) bytes))
+  unfolding rewritten
+  replace-ends {vs} {end} below ends done =
+      let new = replaced source (patchesOf (editsOf numbers) bytes) in
+      let long : length level ≡ length w = leveled-long (f .passed) (f .full) small base shared ∙ f .long in
+      let e : packets total ≡ end / 4 = omega (arith, words-number total) in
+      let message = pack sysex8 (groupAt sysex8 us 0) (idAt sysex8 us 0) new in
+      let few : Below 256 new = rw (← all-merged lists) (below-merged 256 false true 0 (editsOf numbers) source bytes (lists .below) below) in
+      finished level new (groupAt sysex8 us 0) (idAt sysex8 us 0) base total end (lists .result) few refl (shared ∙ base-is (f .passed) (small 0)) ends (omega (arith, l .room, long)) vs (rw e at (done source lists)) filled
+      ∙ leveled-stored (f .passed) (f .full) small base shared message
+      ∙ f .again new
+      ∙ ap (λ (p : List ℕ). rewritten sysex8 w len (replaced p (patchesOf (editsOf numbers) bytes))) (f .carries)

@@ -1,5 +1,6 @@
-# Sourced by run, restore, record, bench/run and bench/count, from the project's root: finds the original files and the tools, and
-# builds a program over the original in target/oracle. Nothing is fetched.
+# Sourced by run, restore, record, bench/run, bench/count and bench/stack, from the project's root: finds the original files and the
+# tools (tools/machine.sh), and builds a program over the original in target/oracle. Nothing is fetched.
+. tools/machine.sh
 
 oracle_folder=target/oracle
 
@@ -12,7 +13,7 @@ oracle_stop() {
 # Reads the arguments [SOURCES] [--library LIB.a] into sources and library.
 oracle_arguments() {
     sources=../shared/docs/src
-    library=target/staticlib/liblatchbeacon.a
+    library=$machine_library
     while [ $# -gt 0 ]; do
         case $1 in
             --library)
@@ -84,12 +85,11 @@ oracle_lay_out() {
 
 # Finds the library $1 and the tools.
 oracle_tools() {
-    [ -f "$1" ] || oracle_stop "no library at $1 (make it with: rt staticlib latchbeacon)"
+    [ -f "$1" ] || oracle_stop "no library at $1 (make it with: $machine_maker)"
     LATCHBEACON_LIBRARY=$(realpath "$1")
     export LATCHBEACON_LIBRARY
-    . tools/x86_64.sh
     mkdir -p "$oracle_folder"
-    x86_64_tools >"$oracle_folder/.tools" || oracle_stop "$(cat "$oracle_folder/.tools")"
+    machine_tools >"$oracle_folder/.tools" || oracle_stop "$(cat "$oracle_folder/.tools")"
 }
 
 # Builds the program $1 against the library $2; further arguments go to cargo. The program's path is left in

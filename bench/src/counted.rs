@@ -1,5 +1,5 @@
 //! One call so many times, so that the instructions that it takes can be counted from outside.
-use crate::{chains, inputs, original, port};
+use crate::{chains, inputs, iterating, original, port};
 use std::hint::black_box;
 
 /// Who is called: ours, the original's bare call, or the original with its check before it.
@@ -10,9 +10,8 @@ enum Side {
     Checked,
 }
 
-/// A splice of 8 bytes in the middle by 16, and back; or of 8 by 8.
-fn splices(side: Side, words: &[u32], size: usize, there_and_back: bool) -> Box<dyn FnMut()> {
-    let from = (size / 2).saturating_sub(4);
+/// A splice of 8 bytes from a byte on by 16, and back; or of 8 by 8.
+fn splices(side: Side, words: &[u32], from: usize, there_and_back: bool) -> Box<dyn FnMut()> {
     let mut ours = port::Bank::new(words);
     let mut theirs = original::Bank::new(words);
     let mut splice = move |to: usize, bytes: &[u8]| match side {
@@ -46,6 +45,29 @@ fn packing(side: Side, bytes: &[u8], copy_only: bool) -> Box<dyn FnMut()> {
             Side::Port => port::pack(black_box(&mut room)),
             _ => original::pack(black_box(&mut room)),
         }
+    })
+}
+
+/// Copying a message in, and then so many edits at once, or one after the other; none of them if it is only to be copied.
+fn list(side: Side, words: &[u32], size: usize, count: usize) -> Box<dyn FnMut()> {
+    let (words, list) = (words.to_vec(), inputs::list(size, count, false));
+    let mut ours = port::Bank::new(&words);
+    Box::new(move || {
+        if side == Side::Port {
+            ours.copy_in(black_box(&words));
+            if count > 0 {
+                ours.splice_all(black_box(&list.numbers), black_box(&list.bytes));
+            }
+            return;
+        }
+        let mut theirs = original::Bank::new(black_box(&words));
+        for (from, to, bytes) in list.edits().rev() {
+            match side {
+                Side::Checked => theirs.checked_splice(from, to, bytes),
+                _ => theirs.splice(from, to, bytes),
+            }
+        }
+        black_box(&theirs);
     })
 }
 
@@ -93,7 +115,7 @@ fn store(name: &str, side: Side, size: usize) -> Option<Box<dyn FnMut()>> {
     })
 }
 
-/// A call that reads, or sets one byte. The check has no bare form.
+/// A call that reads, or sets one thing. The check has no bare form.
 fn small(name: &str, side: Side, words: &[u32], size: usize) -> Option<Box<dyn FnMut()>> {
     type Call = fn(&mut [u32], &mut [u8], usize);
     let (ours, theirs): (Call, Call) = match name {
@@ -104,8 +126,13 @@ fn small(name: &str, side: Side, words: &[u32], size: usize) -> Option<Box<dyn F
             |words, _, middle| _ = black_box(original::byte(words, middle)),
         ),
         "set_byte" => {
-            (|words, _, middle| port::set_byte(words, middle, 0x55), |words, _, middle| original::set_byte(words, middle, 0x55))
+            (|words, _, middle| port::set_byte(words, middle, 5), |words, _, middle| original::set_byte(words, middle, 5))
         }
+        "set_group" => (|words, _, _| port::set_group(words, 0, 5), |words, _, _| original::set_group(words, 0, 5)),
+        "set_stream_id" => (|words, _, _| port::set_stream_id(words, 0, 5), |words, _, _| original::set_stream_id(words, 0, 5)),
+        "next" => (|words, room, _| iterating::our_next(words, room), |words, room, _| iterating::their_next(words, room)),
+        "fold" => (|words, room, _| iterating::our_fold(words, room), |words, room, _| iterating::their_fold(words, room)),
+        "vector" => (|words, room, _| iterating::our_vector(words, room), |words, room, _| iterating::their_vector(words, room)),
         _ => return None,
     };
     let check_first = side == Side::Checked && name != "check";
@@ -130,12 +157,18 @@ pub fn run(arguments: &[String]) -> bool {
         _ => return false,
     };
     let bytes = inputs::bytes(size);
-    let words = inputs::packed(&bytes);
+    let (words, middle) = (inputs::packed(&bytes), (size / 2).saturating_sub(4));
     let call = match name.as_str() {
-        "there_and_back" => Some(splices(side, &words, size, true)),
-        "same_size" => Some(splices(side, &words, size, false)),
+        "there_and_back" => Some(splices(side, &words, middle, true)),
+        "same_size" => Some(splices(side, &words, middle, false)),
+        "there_and_back_at_0" => Some(splices(side, &words, 0, true)),
+        "same_size_at_0" => Some(splices(side, &words, 0, false)),
         "packing" => Some(packing(side, &bytes, false)),
-        "copy" => Some(packing(side, &bytes, true)),
+        "packing_copy" => Some(packing(side, &bytes, true)),
+        "list_copy" => Some(list(side, &words, size, 0)),
+        "list_2" => Some(list(side, &words, size, 2)),
+        "list_16" => Some(list(side, &words, size, 16)),
+        "list_200" => Some(list(side, &words, size, 200)),
         "origin" => origin(side, &words, size),
         "stream" => stream(side, size, false),
         "clocked_stream" => stream(side, size, true),

@@ -43,6 +43,43 @@ pub fn edits(size: usize) -> (Vec<usize>, Vec<u8>) {
     (numbers, bytes(count))
 }
 
+/// A list of edits: from, to and length of each, and the bytes of all.
+pub struct List {
+    pub numbers: Vec<usize>,
+    pub bytes: Vec<u8>,
+}
+
+impl List {
+    /// The edits: from, to and bytes of each.
+    pub fn edits(&self) -> impl DoubleEndedIterator<Item = (usize, usize, &[u8])> {
+        let mut rest = &self.bytes[..];
+        let edits: Vec<_> = self
+            .numbers
+            .chunks(3)
+            .map(|edit| {
+                let (bytes, behind) = rest.split_at(edit[2]);
+                rest = behind;
+                (edit[0], edit[1], bytes)
+            })
+            .collect();
+        edits.into_iter()
+    }
+}
+
+/// So many edits, evenly apart, each of four bytes: by three, four or five in turn; or, growing first, the first half by five and the
+/// others by three. There are six bytes or more to an edit.
+pub fn list(size: usize, count: usize, growing_first: bool) -> List {
+    assert!(6 * count <= size);
+    let length = |edit| match growing_first {
+        false => 3 + edit % 3,
+        true if 2 * edit < count => 5,
+        true => 3,
+    };
+    let numbers: Vec<usize> = (0..count).flat_map(|edit| [size * edit / count, size * edit / count + 4, length(edit)]).collect();
+    let total = numbers.chunks(3).map(|edit| edit[2]).sum();
+    List { numbers, bytes: (0..total).map(|index| (index * 5 + 1) as u8).collect() }
+}
+
 /// A payload octet of the packet in the middle.
 pub fn middle_octet(words: &[u32]) -> usize {
     words.len() / 8 * 16 + 8

@@ -2,7 +2,8 @@
 use midi2::inside;
 use midi2::sysex7::Sysex7;
 use midi2::sysex8::Sysex8;
-use midi2::{FromBytes, Sysex};
+use midi2::{FromBytes, Grouped, Sysex};
+use ux::u4;
 
 /// `try_from`.
 #[inline(never)]
@@ -28,6 +29,18 @@ pub fn byte(words: &[u32], index: usize) -> u8 {
 #[inline(never)]
 pub fn set_byte(words: &mut [u32], index: usize, value: u8) {
     inside::sysex8(words).set_byte(value, index);
+}
+
+/// `set_group`.
+#[inline(never)]
+pub fn set_group(words: &mut [u32], _: usize, group: u8) {
+    inside::sysex8(words).set_group(u4::new(group));
+}
+
+/// `set_stream_id`.
+#[inline(never)]
+pub fn set_stream_id(words: &mut [u32], _: usize, id: u8) {
+    inside::sysex8(words).set_stream_id(id);
 }
 
 /// `compact`.

@@ -56,6 +56,8 @@ extern "C" {
     fn latchbeacon_sysex8_check(words: Words, lent: usize, length: usize) -> Message;
     fn latchbeacon_sysex8_byte(words: Words, lent: usize, length: usize, index: usize) -> Number;
     fn latchbeacon_sysex8_payload(words: Words, lent: usize, length: usize, bytes: *mut u8, bytes_lent: usize) -> Number;
+    fn latchbeacon_sysex8_set_group(words: Room, lent: usize, length: usize, group: u8) -> Number;
+    fn latchbeacon_sysex8_set_stream_id(words: Room, lent: usize, length: usize, id: u8) -> Number;
     fn latchbeacon_sysex8_set_byte(words: Room, lent: usize, length: usize, index: usize, value: u8) -> Number;
     fn latchbeacon_sysex8_repack(words: Room, lent: usize, length: usize) -> Number;
     fn latchbeacon_sysex8_splice(
@@ -66,6 +68,15 @@ extern "C" {
         to: usize,
         replacement: *const u8,
         replacement_lent: usize,
+    ) -> Change;
+    fn latchbeacon_sysex8_splice_all(
+        words: Room,
+        lent: usize,
+        length: usize,
+        numbers: *const usize,
+        numbers_lent: usize,
+        bytes: *const u8,
+        bytes_lent: usize,
     ) -> Change;
     fn latchbeacon_sysex8_origin(
         words: Words,
@@ -108,6 +119,18 @@ pub fn byte(words: &[u32], index: usize) -> u8 {
 /// Sets a byte.
 pub fn set_byte(words: &mut [u32], index: usize, value: u8) {
     let answer = unsafe { latchbeacon_sysex8_set_byte(words.as_mut_ptr(), words.len(), words.len(), index, value) };
+    assert!(answer.refusal == 0);
+}
+
+/// Sets the group of every packet.
+pub fn set_group(words: &mut [u32], _: usize, group: u8) {
+    let answer = unsafe { latchbeacon_sysex8_set_group(words.as_mut_ptr(), words.len(), words.len(), group) };
+    assert!(answer.refusal == 0);
+}
+
+/// Sets the stream id of every packet.
+pub fn set_stream_id(words: &mut [u32], _: usize, id: u8) {
+    let answer = unsafe { latchbeacon_sysex8_set_stream_id(words.as_mut_ptr(), words.len(), words.len(), id) };
     assert!(answer.refusal == 0);
 }
 
@@ -180,6 +203,22 @@ impl Bank {
         let mut room = words.to_vec();
         room.resize((words.len() + 8).min(16_384), 0);
         Bank { words: room, length: words.len() }
+    }
+
+    /// The words in place of the message.
+    pub fn copy_in(&mut self, words: &[u32]) {
+        self.words[..words.len()].copy_from_slice(words);
+        self.length = words.len();
+    }
+
+    /// All edits of a list at once.
+    pub fn splice_all(&mut self, numbers: &[usize], bytes: &[u8]) {
+        let (words, lent) = (self.words.as_mut_ptr(), self.words.len());
+        let (edits, count) = (numbers.as_ptr(), numbers.len());
+        let answer =
+            unsafe { latchbeacon_sysex8_splice_all(words, lent, self.length, edits, count, bytes.as_ptr(), bytes.len()) };
+        assert!(answer.refusal == 0);
+        self.length = answer.length;
     }
 
     /// A splice.

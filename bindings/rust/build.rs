@@ -1,42 +1,59 @@
-//! Finds or builds the static library, and tells the linker where it is.
+//! Finds or builds the static library, and tells the linker where it is. Only linking needs it: if there is none, this says why and
+//! the crate can still be checked and documented.
 
 use std::env;
 use std::fs;
 use std::io::ErrorKind;
 use std::path::{Path, PathBuf};
-use std::process::{self, Command};
+use std::process::Command;
 
 const VARIABLE: &str = "LATCHBEACON_LIBRARY";
 const FILE: &str = "liblatchbeacon.a";
 
-// Links the library that is named or built, or says on standard error why there is none.
+// The command that builds the library for a machine, in the project's root, and the folder that it writes it to.
+struct Maker {
+    command: &'static str,
+    words: &'static [&'static str],
+    folder: &'static str,
+}
+
+const X86_64: Maker = Maker { command: "rt", words: &["staticlib", "latchbeacon"], folder: "target/staticlib" };
+const AARCH64: Maker = Maker { command: "bash", words: &["tools/native/staticlib"], folder: "target/aarch64" };
+
+// Links the library that is named or built, or warns that there is none.
 fn main() {
     println!("cargo:rerun-if-changed=build.rs");
     println!("cargo:rerun-if-env-changed={VARIABLE}");
-    if let Err(message) = target().and_then(|()| library()).and_then(|path| link(&path)) {
-        eprintln!("\nlatchbeacon: {message}\n");
-        process::exit(1);
+    let folder = PathBuf::from(env::var_os("OUT_DIR").unwrap_or_default());
+    let copy = folder.join(FILE);
+    // No library of an earlier build is linked.
+    let _ = fs::remove_file(&copy);
+    if let Err(message) = library().and_then(|path| take(&path, &copy)) {
+        println!("cargo:warning=there is no static library, so that this can be checked and documented, but not linked");
+        message.lines().for_each(|line| println!("cargo:warning={line}"));
+        // It is looked for again in the next build.
+        println!("cargo:rerun-if-changed={}", copy.display());
     }
+    println!("cargo:rustc-link-search=native={}", folder.display());
+    println!("cargo:rustc-link-lib=static=latchbeacon");
 }
 
-// Refuses every target that the static library is not compiled for.
-fn target() -> Result<(), String> {
-    let part = |name: &str| env::var(name).unwrap_or_default();
-    let (machine, system) = (part("CARGO_CFG_TARGET_ARCH"), part("CARGO_CFG_TARGET_OS"));
-    if machine == "x86_64" && system == "linux" {
-        return Ok(());
-    }
-    Err(format!(
-        "the static library is compiled for x86-64 Linux alone, and this build is for {machine} {system}.\n\
-         Build with `--target x86_64-unknown-linux-gnu`."
-    ))
-}
-
-// The static library: the one that the environment names, else the one that `rt` builds.
+// The static library: the one that the environment names, else the one that is built for the target.
 fn library() -> Result<PathBuf, String> {
     match env::var_os(VARIABLE) {
         Some(path) if !path.is_empty() => named(PathBuf::from(path)),
-        _ => built(),
+        _ => target().and_then(built),
+    }
+}
+
+// How the static library for the target is built.
+fn target() -> Result<Maker, String> {
+    let part = |name: &str| env::var(name).unwrap_or_default();
+    let (machine, system) = (part("CARGO_CFG_TARGET_ARCH"), part("CARGO_CFG_TARGET_OS"));
+    match (machine.as_str(), system.as_str()) {
+        ("x86_64", "linux") => Ok(X86_64),
+        ("aarch64", "linux") => Ok(AARCH64),
+        _ => Err(format!("it is made for Linux on x86-64 and aarch64 alone, and this build is for {machine} {system}")),
     }
 }
 
@@ -56,25 +73,26 @@ fn named(path: PathBuf) -> Result<PathBuf, String> {
 }
 
 // The static library that `rt` proves and builds in the project's root, two folders up.
-fn built() -> Result<PathBuf, String> {
+fn built(maker: Maker) -> Result<PathBuf, String> {
     let folder = env::current_dir().unwrap_or_default();
     let root = folder.ancestors().nth(2).ok_or("the bindings do not stand in the project")?;
     println!("cargo:rerun-if-env-changed=PATH");
-    for source in ["crates", "crates.txt"] {
+    for source in ["crates", "crates.txt", "tools"] {
         println!("cargo:rerun-if-changed={}", root.join(source).display());
     }
-    let answer = Command::new("rt").args(["staticlib", "latchbeacon"]).current_dir(root).output();
-    let output = match answer {
-        Ok(output) => output,
-        Err(error) if error.kind() == ErrorKind::NotFound => return Err(neither()),
-        Err(error) => return Err(format!("`rt` cannot be run: {error}")),
-    };
-    let path = root.join("target").join("staticlib").join(FILE);
+    Command::new("rt").arg("version").output().map_err(|error| match error.kind() {
+        ErrorKind::NotFound => neither(),
+        _ => format!("`rt` cannot be run: {error}"),
+    })?;
+    let command = format!("{} {}", maker.command, maker.words.join(" "));
+    let answer = Command::new(maker.command).args(maker.words).current_dir(root).output();
+    let output = answer.map_err(|error| format!("`{command}` cannot be run: {error}"))?;
+    let path = root.join(maker.folder).join(FILE);
     if output.status.success() && path.is_file() {
         return Ok(path);
     }
     Err(format!(
-        "`rt staticlib latchbeacon` in {} did not write {} ({}):\n{}{}",
+        "`{command}` in {} did not write {} ({}):\n{}{}",
         root.display(),
         path.display(),
         output.status,
@@ -86,17 +104,13 @@ fn built() -> Result<PathBuf, String> {
 // What to do when no library is named and there is no `rt` to build one.
 fn neither() -> String {
     format!(
-        "there is no static library to link. Do one of these:\n\
+        "To link it, do one of these:\n\
          - set {VARIABLE} to the full path of a {FILE}, or\n\
          - install the Rattle kit, so that `rt` is on PATH; then the library is built here."
     )
 }
 
-// Copies the library to the folder of this build, and tells the linker of it.
-fn link(path: &Path) -> Result<(), String> {
-    let folder = PathBuf::from(env::var_os("OUT_DIR").ok_or("cargo gave no OUT_DIR")?);
-    fs::copy(path, folder.join(FILE)).map_err(|error| format!("{} cannot be copied: {error}", path.display()))?;
-    println!("cargo:rustc-link-search=native={}", folder.display());
-    println!("cargo:rustc-link-lib=static=latchbeacon");
-    Ok(())
+// Copies the library to the folder of this build.
+fn take(path: &Path, copy: &Path) -> Result<(), String> {
+    fs::copy(path, copy).map(drop).map_err(|error| format!("{} cannot be copied: {error}", path.display()))
 }

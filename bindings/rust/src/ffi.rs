@@ -365,7 +365,7 @@ pub(crate) fn move_edit(done: Edit, pending: Edit, done_first: bool) -> Result<R
         .accepted()
 }
 
-// ---- reading a payload byte by byte
+// ---- reading a payload
 
 // The cursor at the start of a message.
 pub(crate) fn sysex8_open(words: &[u32], length: usize) -> Result<crate::Cursor, Error> {
@@ -396,6 +396,7 @@ pub(crate) fn sysex8_nth(words: &[u32], at: crate::Cursor, skip: usize) -> (Opti
 }
 
 // How many bytes remain.
+#[inline]
 pub(crate) fn sysex8_remaining(words: &[u32], at: crate::Cursor) -> usize {
     // SAFETY: `words` is a slice.
     unsafe { latchbeacon_sysex8_remaining(words.as_ptr(), words.len(), at.packet, at.byte, at.remaining) }

@@ -1,7 +1,8 @@
 //! MIDI 2.0 SysEx8 bulk dumps: check, read, set, pack and splice, and restore from a store, in words that the caller lends.
 //!
 //! This crate is a safe skin over the static library `latchbeacon`, whose calls are proved to meet their contracts for every
-//! input. It has no other dependencies. It links on x86-64 Linux.
+//! input. It has no other dependencies. It links on Linux, on x86-64 and on Arm (aarch64). What is proved is compiled for x86-64; the
+//! library for Arm is made of the same module, and tested.
 //!
 //! A [`Message`] borrows a buffer of words and keeps the message's length in it. It is made by the check alone, so what it holds is
 //! a whole message: one complete packet, or start, continue and end packets of one group and stream id. The calls on it answer, or
@@ -49,7 +50,7 @@
 //! | `message.payload_size()` | [`message.size()`](Message::size) |
 //! | `message.payload()` | [`message.payload()`](Message::payload), the same kind of iterator |
 //! | `message.payload().nth(i)` | [`message.byte(i)?`](Message::byte), or `message.payload().nth(i)` |
-//! | `message.payload().collect::<Vec<u8>>()` | the same, or [`message.copy_payload(&mut bytes)?`](Message::copy_payload) |
+//! | `message.payload().collect::<Vec<u8>>()` | [`message.payload().to_vec()`](Payload::to_vec), or [`message.copy_payload(&mut bytes)?`](Message::copy_payload) |
 //! | `message.set_payload(data)`, `try_set_payload(data)?` | [`message.set_payload(&bytes)?`](Message::set_payload) |
 //! | `message.set_byte(byte, index)` | [`message.set_byte(index, byte)?`](Message::set_byte); mind the order |
 //! | `message.splice_payload(data, range)`, `try_splice_payload(data, range)?` | [`message.splice(range, &bytes)?`](Message::splice), which answers the growth; mind the order |

@@ -28,24 +28,13 @@ impl Numbers {
     /// A message of 1 to `most` packets, full, short and empty ones, in any group and stream; and its payload.
     pub fn message(&mut self, most: usize) -> (Vec<u32>, Vec<u8>) {
         let (packets, group, id) = (1 + self.below(most), self.below(16) as u32, self.below(256) as u32);
-        let (mut words, mut payload) = (Vec::new(), Vec::new());
-        for packet in 0..packets {
+        let (mut sizes, mut payload) = (Vec::new(), Vec::new());
+        for _ in 0..packets {
             let size = [0, 13, self.below(14)][self.below(3)];
-            let bytes = self.bytes(size);
-            let status = match packet {
-                _ if packets == 1 => 0,
-                0 => 1,
-                _ if packet + 1 == packets => 3,
-                _ => 2,
-            };
-            let mut octets = [0; 16];
-            octets[3..3 + size].copy_from_slice(&bytes);
-            let first = 0x5000_0000 | group << 24 | status << 20 | (size as u32 + 1) << 16 | id << 8;
-            words.extend(octets.chunks(4).map(|four| u32::from_be_bytes([four[0], four[1], four[2], four[3]])));
-            words[4 * packet] |= first;
-            payload.extend(bytes);
+            sizes.push(size);
+            payload.extend(self.bytes(size));
         }
-        (words, payload)
+        (message(group, id, &payload, &sizes), payload)
     }
 
     /// A list of 1 to `most` edits of a payload of `size` bytes, in ascending order, each ending no later than the next begins; and
@@ -62,4 +51,25 @@ impl Numbers {
         }
         edits
     }
+}
+
+/// The message of a payload in packets of these sizes.
+pub fn message(group: u32, id: u32, payload: &[u8], sizes: &[usize]) -> Vec<u32> {
+    let (mut words, mut rest) = (Vec::new(), payload);
+    for (packet, &size) in sizes.iter().enumerate() {
+        let (bytes, behind) = rest.split_at(size);
+        let status = match packet {
+            _ if sizes.len() == 1 => 0,
+            0 => 1,
+            _ if packet + 1 == sizes.len() => 3,
+            _ => 2,
+        };
+        let mut octets = [0; 16];
+        octets[3..3 + size].copy_from_slice(bytes);
+        let first = 0x5000_0000 | group << 24 | status << 20 | (size as u32 + 1) << 16 | id << 8;
+        words.extend(octets.chunks(4).map(|four| u32::from_be_bytes([four[0], four[1], four[2], four[3]])));
+        words[4 * packet] |= first;
+        rest = behind;
+    }
+    words
 }

@@ -2,18 +2,18 @@
  * latchbeacon: MIDI 2.0 SysEx8 bulk dumps: check, read, set, pack and splice, and restore from a store, in buffers that the caller
  * lends.
  *
- * Every call answers for any words, bytes and numbers. It takes no memory but stack, keeps nothing and never stops the program;
- * calls on buffers that do not overlap may run at the same time.
+ * Every call answers for any words, bytes and numbers. It takes no memory but stack, keeps nothing and never stops the program.
  *
- * Buffers. A buffer is a pointer and the number of its items, which are there for the length of the call. A pointer is never
- * null, not even for no items: any aligned address will do there. Two buffers of one call do not overlap. No buffer that a call
- * only reads is changed, and no word or byte past the number given is read or changed.
+ * Buffers. A buffer is a pointer and the number of its items, which are there for the length of the call. For no items the pointer may
+ * be anything, NULL too. No word or byte past the number given is read or changed.
+ * A `const` buffer is only read: it may overlap other `const` buffers of the call, and any number of calls, on any threads, may read
+ * it at the same time. A buffer that a call may change overlaps no other buffer of that call, and no other call has it meanwhile.
  *
- * Words. A message is the first `length` of `words_lent` words. At most 16,384 words are taken (4,096 packets, 53,248 payload bytes
- * of SysEx8). A word is a number of the machine: octet 0 is its most significant.
+ * Words. A message is the first `length` of `words_lent` words. At most LATCHBEACON_MOST_WORDS words are taken, which is 4,096 packets
+ * of SysEx8 with LATCHBEACON_MOST_BYTES payload bytes. A word is a number of the machine: octet 0 is its most significant.
  *
- * Answers. `refusal` is 0 if the call is accepted, else one of the numbers below; then `place` says where, every value in the
- * answer is 0 and every lent buffer holds what it held before. An accepted answer has place 0.
+ * Answers. `refusal` is LATCHBEACON_ACCEPTED, 0, if the call is accepted, else one of the numbers below; then `place` says where, every
+ * value in the answer is 0 and every lent buffer holds what it held before. An accepted answer has place 0.
  *
  * "The check's refusals" are 1 to 12 (SysEx7: 1 to 11) in this order, each over all packets before the next, except that 6 to 9 are
  * one walk.
@@ -25,14 +25,35 @@
 #include <stddef.h>
 #include <stdint.h>
 
+/* The version of this header and of the library that it belongs to. */
+#define LATCHBEACON_VERSION "0.1.0"
+#define LATCHBEACON_VERSION_MAJOR 0
+#define LATCHBEACON_VERSION_MINOR 1
+#define LATCHBEACON_VERSION_PATCH 0
+
+/* The most words that a message may be lent in, and the most payload bytes that a SysEx8 message has in so many: more never fit. */
+#define LATCHBEACON_MOST_WORDS 16384
+#define LATCHBEACON_MOST_BYTES 53248
+
+/* The library is compiled for Linux, on x86-64 and on Arm (aarch64), where a size_t has 64 bits. */
+#if !(defined(__x86_64__) || defined(__aarch64__)) || defined(_WIN32)
+#error "latchbeacon is compiled for Linux on x86-64, and on Arm (aarch64)"
+#endif
+#ifdef __cplusplus
+static_assert(sizeof(size_t) == 8, "latchbeacon takes a size_t of 64 bits");
+#else
+_Static_assert(sizeof(size_t) == 8, "latchbeacon takes a size_t of 64 bits");
+#endif
+
 #ifdef __cplusplus
 extern "C" {
 #endif
 
-/* Why a call refuses. The place is the word index of the first packet at fault for 5 to 12, the index of the first such byte for 18,
- * else 0. */
+/* 0 for a call that is accepted; else why it refuses. The place is the word index of the first packet at fault for 5 to 12, the index
+ * of the first such byte for 18, else 0. */
 enum latchbeacon_refusal {
-    LATCHBEACON_LONG = 1,      /* more than 16,384 words lent */
+    LATCHBEACON_ACCEPTED = 0,  /* the call is accepted */
+    LATCHBEACON_LONG = 1,      /* more than LATCHBEACON_MOST_WORDS words lent */
     LATCHBEACON_LENGTH = 2,    /* message length above the words lent */
     LATCHBEACON_SHORT = 3,     /* under 4 words (SysEx7: 2) */
     LATCHBEACON_RAGGED = 4,    /* not whole packets */
@@ -45,7 +66,7 @@ enum latchbeacon_refusal {
     LATCHBEACON_GROUP = 11,    /* differs from the first packet */
     LATCHBEACON_STREAM = 12,   /* SysEx8 id differs from the first */
     LATCHBEACON_RANGE = 13,    /* from above to, or to above the payload size; byte index not below it; a number within an edit above
-                                  53,248; octet index not below 4 times the words lent */
+                                  LATCHBEACON_MOST_BYTES; octet index not below 4 times the words lent */
     LATCHBEACON_ROOM = 14,     /* words needed exceed words lent for output (payload out: bytes; store: also of a dump on the way) */
     LATCHBEACON_STATUS = 15,   /* single packet, status over 3 */
     LATCHBEACON_FIELD = 16,    /* field index, or value for a field, too big */
@@ -264,7 +285,7 @@ latchbeacon_change latchbeacon_sysex8_set_payload(uint32_t *words, size_t words_
  * replacement length, as of the message before the call; its bytes follow those of the edits before it in `bytes`. The edits are in
  * ascending order, each ending no later than the next begins. The growth is that of all of them. With no edits the message is
  * packed. Refusals: the check's, then 13 (also when the numbers are not three to an edit, or the bytes are not as many as the lengths
- * say), 20, 14. */
+ * say), 20, 14 (the result needs more words than lent: no step on the way there needs room of its own). */
 latchbeacon_change latchbeacon_sysex8_splice_all(uint32_t *words, size_t words_lent, size_t length, const size_t *numbers,
                                                  size_t numbers_lent, const uint8_t *bytes, size_t bytes_lent);
 
@@ -278,11 +299,13 @@ latchbeacon_origin latchbeacon_sysex8_origin(const uint32_t *words, size_t words
 
 /* ---- edits: from, to and replacement length ---------------------------------------------------------------------------------- */
 
-/* Answers replacement length minus range length. Refusal: 13 (reversed, or a number above 53,248). */
+/* Answers replacement length minus range length. Refusal: 13 (reversed, or a number above LATCHBEACON_MOST_BYTES). */
 latchbeacon_edit_growth latchbeacon_growth(size_t from, size_t to, size_t length);
 
 /* Answers the pending edit's new range once the done one is spliced. Both are given as of the message just before that;
- * `done_first` says that the done edit stands first. Refusals: 13 (either edit), then 20 (first's to above second's from). */
+ * `done_first` says that the done edit stands first. The new range may go past LATCHBEACON_MOST_BYTES, where the done edit grows the
+ * payload: moving does not know the payload; a splice at such a range is refused with 13. Refusals: 13 (either edit), then 20 (first's
+ * to above second's from). */
 latchbeacon_range latchbeacon_move_edit(size_t done_from, size_t done_to, size_t done_length, size_t pending_from,
                                         size_t pending_to, size_t pending_length, bool done_first);
 
@@ -306,7 +329,8 @@ size_t latchbeacon_sysex8_remaining(const uint32_t *words, size_t words_lent, si
 
 /* ---- byte stream to SysEx7 ----------------------------------------------------------------------------------------------------- */
 
-/* Writes F0, data, F7 as SysEx7 packets of six bytes, only the last shorter, and answers their words; words past them stay.
+/* Writes the data between F0 and F7 as SysEx7 packets of six bytes, only the last shorter, and answers their words; words past them
+ * stay. F0 and F7 themselves are not stored: the status of the packets says where the data begins and ends.
  * Real-time bytes (F8 to FF hex) after F0 and before the last byte are passed over: they are no data and take no room. The stream may
  * be of any length.
  * Refusals, in this order: 1, 16 (group over 15), 17, 18 (its place counts all bytes, real-time bytes too; F0 has index 0), 14. */
@@ -332,7 +356,7 @@ latchbeacon_number latchbeacon_store_check(const uint8_t *store, size_t store_si
 
 /* Describes the dump of this number. Its `words` are what latchbeacon_store_restore must be lent at least: the most that the dump, or
  * one that it rests on, needs. The message itself takes latchbeacon_sysex8_words_needed(size), which may be fewer. It may be more
- * than 16,384; then the dump cannot be restored.
+ * than LATCHBEACON_MOST_WORDS; then the dump cannot be restored.
  * Refusals, in this order: 21, 22, 23, 24, 25, then 13 (an edit reversed or past its base's payload). */
 latchbeacon_dump latchbeacon_store_describe(const uint8_t *store, size_t store_size, size_t number);
 

@@ -42,7 +42,7 @@ impl Edit {
     ///
     /// # Errors
     ///
-    /// [`Range`](crate::Refusal::Range) if `from` is above `to` or a number is above 53,248.
+    /// [`Range`](crate::Refusal::Range) if `from` is above `to` or a number is above [`MOST_BYTES`](crate::MOST_BYTES).
     ///
     /// ```
     /// use latchbeacon::Edit;
@@ -65,7 +65,7 @@ impl Edit {
 ///
 /// # Errors
 ///
-/// [`Range`](crate::Refusal::Range) if either edit has `from` above `to` or a number above 53,248, then
+/// [`Range`](crate::Refusal::Range) if either edit has `from` above `to` or a number above [`MOST_BYTES`](crate::MOST_BYTES), then
 /// [`Overlap`](crate::Refusal::Overlap) if the first ends after the second begins.
 ///
 /// ```

@@ -16,7 +16,7 @@ use std::fmt;
 #[derive(Clone, Copy, Debug, PartialEq, Eq, Hash)]
 #[non_exhaustive]
 pub enum Refusal {
-    /// 1: more than 16,384 words lent.
+    /// 1: more than [`MOST_WORDS`](crate::MOST_WORDS) words lent.
     Long,
     /// 2: message length above the words lent.
     Length,
@@ -40,8 +40,8 @@ pub enum Refusal {
     Group,
     /// 12: the SysEx8 stream id differs from the first packet's.
     Stream,
-    /// 13: from above to, or to above the payload size; byte index not below it; a number within an edit above 53,248; octet index
-    /// not below 4 times the words lent.
+    /// 13: from above to, or to above the payload size; byte index not below it; a number within an edit above
+    /// [`MOST_BYTES`](crate::MOST_BYTES); octet index not below 4 times the words lent.
     Range,
     /// 14: words needed exceed words lent for output (payload out: bytes; store: also of a dump on the way).
     Room,

@@ -1,8 +1,8 @@
 //! The calls of the static library, each wrapped in a safe function. All unsafe code is here.
 //!
 //! The declarations are include/latchbeacon.h's, in its order; tests/header.rs holds them to it. Each wrapper lends slices, so the
-//! header's demands on buffers hold: a slice is never null, is there for the length of the call, and overlaps no slice that is
-//! changed. The calls take any other numbers.
+//! header's demands on buffers hold: a slice is there for the length of the call, and one that is changed overlaps no other. The calls
+//! take any other numbers.
 
 #![allow(unsafe_code)]
 

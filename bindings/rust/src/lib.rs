@@ -33,7 +33,8 @@
 //!
 //! # Limits
 //!
-//! A buffer has at most 16,384 words: 4,096 packets, 53,248 payload bytes. Lend no more than that; [`Refusal::Long`] says so.
+//! A buffer has at most [`MOST_WORDS`] words: 4,096 packets with [`MOST_BYTES`] payload bytes. Lend no more than that;
+//! [`Refusal::Long`] says so.
 //!
 //! # Coming from midi2
 //!
@@ -95,6 +96,27 @@ pub use packet::Kind;
 pub use payload::{Cursor, Payload};
 pub use store::{Basis, Description, Store};
 pub use sysex7::bytes_to_sysex7;
+
+/// The most words that a message may be lent in.
+///
+/// ```
+/// use latchbeacon::{Message, Refusal, MOST_WORDS};
+///
+/// let mut words = vec![0; MOST_WORDS + 1];
+/// assert_eq!(Message::check(&mut words, 4).unwrap_err().refusal, Refusal::Long);
+/// ```
+pub const MOST_WORDS: usize = 16_384;
+
+/// The most payload bytes of a SysEx8 message: as many as [`MOST_WORDS`] words hold. More never fit. No number within an edit is above
+/// it.
+///
+/// ```
+/// use latchbeacon::{sysex8::words_needed, MOST_BYTES, MOST_WORDS};
+///
+/// assert_eq!(words_needed(MOST_BYTES), MOST_WORDS);
+/// assert!(words_needed(MOST_BYTES + 1) > MOST_WORDS);
+/// ```
+pub const MOST_BYTES: usize = 53_248;
 
 // The example of the README runs as a doc test.
 #[cfg(doctest)]

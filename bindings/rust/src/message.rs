@@ -158,7 +158,7 @@ impl Eq for View<'_> {}
 
 /// A checked SysEx8 message in lent words.
 ///
-/// It borrows a buffer of at most 16,384 words and keeps the message's length in it. It can only be made by the check, and every
+/// It borrows a buffer of at most [`MOST_WORDS`](crate::MOST_WORDS) words and keeps the message's length in it. It can only be made by the check, and every
 /// call keeps what the check found, so no reader of it can fail for broken packets. A call that is refused changes nothing. A call
 /// that is accepted updates [`length`](Message::length); the buffer's words past it are room to grow.
 ///
@@ -522,7 +522,7 @@ impl<'a> Message<'a> {
     ///
     /// # Errors
     ///
-    /// [`Range`](crate::Refusal::Range) if a range is reversed or ends above the payload size, or a number is above 53,248; then
+    /// [`Range`](crate::Refusal::Range) if a range is reversed or ends above the payload size, or a number is above [`MOST_BYTES`](crate::MOST_BYTES); then
     /// [`Overlap`](crate::Refusal::Overlap) if they are not in that order; then [`Room`](crate::Refusal::Room).
     ///
     /// ```

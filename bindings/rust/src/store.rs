@@ -79,7 +79,7 @@ pub struct Description {
     /// Its payload size in bytes.
     pub size: usize,
     /// The words to lend for restoring it: the most that the dump, or one that it rests on, needs. The message itself takes
-    /// [`words_needed(size)`](crate::sysex8::words_needed), which may be fewer. Above 16,384 the dump cannot be restored.
+    /// [`words_needed(size)`](crate::sysex8::words_needed), which may be fewer. Above [`MOST_WORDS`](crate::MOST_WORDS) the dump cannot be restored.
     pub words: usize,
     /// How many bases are followed to its whole dump; 0 for a whole dump.
     pub steps: usize,

@@ -1,7 +1,7 @@
 //! The extern declarations of the bindings, held to include/latchbeacon.h: functions, structs and the numbers of enums, each with
 //! its name, order and types. A declaration that differs, is missing or is extra fails.
 
-use latchbeacon::Refusal;
+use latchbeacon::{Refusal, MOST_BYTES, MOST_WORDS};
 use std::iter::Peekable;
 use std::slice::Iter;
 
@@ -283,17 +283,52 @@ fn declarations_are_those_of_the_header() {
     assert!(differences.is_empty(), "the bindings differ from include/latchbeacon.h:\n{}", differences.join("\n"));
 }
 
-// The refusals have the header's names and numbers, and there are no others.
+// The refusals have the header's names and numbers, and there are no others; the header has a name for 0 too.
 #[test]
 fn refusals_are_those_of_the_header() {
     let header = read_header(HEADER, "latchbeacon_refusal").1;
-    let bindings: Vec<(String, u8)> =
-        Refusal::all().map(|refusal| (format!("LATCHBEACON_{}", upper(refusal.name())), refusal.number())).collect();
+    let accepted = [("LATCHBEACON_ACCEPTED".to_string(), 0)];
+    let refusals = Refusal::all().map(|refusal| (format!("LATCHBEACON_{}", upper(refusal.name())), refusal.number()));
+    let bindings: Vec<(String, u8)> = accepted.into_iter().chain(refusals).collect();
     assert_eq!(header, bindings);
     for refusal in Refusal::all() {
         assert_eq!(Refusal::from_number(refusal.number()), refusal);
         assert_eq!(format!("{refusal:?}"), refusal.name());
     }
+}
+
+// What a macro of a header stands for.
+fn macro_of<'a>(header: &'a str, name: &str) -> &'a str {
+    let define = format!("#define {name} ");
+    let mut found = header.lines().filter_map(|line| line.strip_prefix(define.as_str()));
+    let text = found.next().expect("a macro that the header has");
+    assert_eq!(found.next(), None, "{name} is defined twice");
+    text
+}
+
+// A number as texts have it: 16384 as 16,384.
+fn with_comma(number: usize) -> String {
+    format!("{},{:03}", number / 1000, number % 1000)
+}
+
+// The limits are the header's, in the texts of the refusals too, and stand in the header once.
+#[test]
+fn limits_are_those_of_the_header() {
+    for (name, limit) in [("LATCHBEACON_MOST_WORDS", MOST_WORDS), ("LATCHBEACON_MOST_BYTES", MOST_BYTES)] {
+        assert_eq!(macro_of(HEADER, name), limit.to_string());
+        assert_eq!(HEADER.matches(&limit.to_string()).count(), 1);
+        assert_eq!(HEADER.matches(&with_comma(limit)).count(), 0);
+    }
+    assert!(Refusal::Long.meaning().contains(&with_comma(MOST_WORDS)));
+    assert!(Refusal::Range.meaning().contains(&with_comma(MOST_BYTES)));
+}
+
+// The version is that of this crate.
+#[test]
+fn version_is_that_of_the_header() {
+    let parts = ["MAJOR", "MINOR", "PATCH"].map(|part| macro_of(HEADER, &format!("LATCHBEACON_VERSION_{part}")));
+    assert_eq!(parts.join("."), env!("CARGO_PKG_VERSION"));
+    assert_eq!(macro_of(HEADER, "LATCHBEACON_VERSION"), format!("\"{}\"", env!("CARGO_PKG_VERSION")));
 }
 
 // The kinds of packets have the header's names and numbers, and there are no others.

@@ -20,7 +20,8 @@ fn splice_checked(
     bytes: &[u8],
 ) -> Spliced
     requires { ⌜ Accepted (now words) length size ⌝ }
-    ensures { λ r. ⌜ (splicedMeaning r, now (words .exit)) ≡ spliceAll sysex8 (now (words .entry)) length (now (numbers .entry)) (now (bytes .entry)) ⌝ }
+    ensures { λ r. ⌜ (splicedMeaning r, now (words .exit))
+        ≡ spliceAll sysex8 (now (words .entry)) length (now (numbers .entry)) (now (bytes .entry)) ⌝ }
 {
     let listed = crate::listed::check_list(numbers, size, bytes.len());
     match listed {
@@ -49,7 +50,8 @@ fn splice_checked(
 // bytes follow those of the edits before it. The check's refusals, then Range, Overlap, Room when the result needs more words
 // than are lent.
 pub fn splice_all(words: &mut [u32], length: usize, numbers: &[usize], bytes: &[u8]) -> Spliced
-    ensures { λ r. ⌜ (splicedMeaning r, now (words .exit)) ≡ spliceAll sysex8 (now (words .entry)) length (now (numbers .entry)) (now (bytes .entry)) ⌝ }
+    ensures { λ r. ⌜ (splicedMeaning r, now (words .exit))
+        ≡ spliceAll sysex8 (now (words .entry)) length (now (numbers .entry)) (now (bytes .entry)) ⌝ }
 {
     let checked = message::sysex8::check(words, length);
     match checked {

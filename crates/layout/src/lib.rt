@@ -1,7 +1,7 @@
 // The layout of packets in words, each thing once: the fields of a first word, words and octets, the status by place, the bytes that a count
 // carries, and the limits. Each call is total.
 ghost use mathlib.Core.Path.{_≡_};
-ghost use Prim.Native.Nat.{_%_};
+ghost use Prim.Native.Nat.{_+_, _*_, _%_};
 ghost use Rattle.ump.specs.Word.{nibble, octet, word as wordOf, octetField, shift, withPart};
 ghost use Rattle.ump.specs.Packet.{sysex8, sysex7, sizeOf};
 ghost use Rattle.ump.specs.Packing.{statusFor};
@@ -53,6 +53,18 @@ pub fn word_of(first: u8, second: u8, third: u8, fourth: u8) -> u32
     ensures { λ r. ⌜ r ≡ wordOf first second third fourth ⌝ }
 {
     first as u32 * 0x100_0000 + second as u32 * 0x1_0000 + third as u32 * 0x100 + fourth as u32
+}
+
+// The first word with these fields, of each of which the low four bits are taken, with this stream id and no payload byte.
+pub fn first_word(kind: u8, group: u8, status: u8, count: u8, id: u8) -> u32
+    ensures { λ r. ⌜ r ≡ wordOf (kind % 16 * 16 + group % 16) (status % 16 * 16 + count % 16) id 0 ⌝ }
+{
+    word_of(
+        kind % 16 * 16 + group % 16,
+        status % 16 * 16 + count % 16,
+        id,
+        0,
+    )
 }
 
 // Octet `place`, counted on past 3, of a word.

@@ -5,7 +5,7 @@ ghost use lib.ListN.{length, set};
 ghost use Rattle.refusal.specs.Answer.{refused};
 ghost use Rattle.refusal.specs.Number.{numberOf};
 ghost use Rattle.ump.specs.Packet.{sysex7};
-ghost use Rattle.ump.specs.Packing.{statusFor, packetsFor};
+ghost use Rattle.ump.specs.Packing.{packetsFor};
 ghost use Rattle.ump.specs.Stream.{badFrame, badByte, withoutRealTime, firstBad, toSysex7};
 ghost use Rattle.stream.specs.Meaning.{writtenMeaning};
 ghost use Rattle.stream.specs.Steps.{onward, countBelow, pairAt, fourAt, headWord, Took, TookSix, Filled, Sized, withPackets};
@@ -51,13 +51,6 @@ fn bad_frame(bytes: &[u8]) -> bool
     bytes[bytes.len() - 1] != 0xF7
 }
 
-// The smaller of two numbers.
-fn least(a: usize, b: usize) -> usize
-    ensures { λ r. ⌜ r ≡ min a b ⌝ }
-{
-    if a < b { a } else { b }
-}
-
 // How many of at most 255 bytes are below a limit.
 fn count_few(bytes: &[u8], limit: u8) -> u8
     requires { ⌜ length (now bytes) ≤ 255 ⌝ }
@@ -78,17 +71,14 @@ fn count_few(bytes: &[u8], limit: u8) -> u8
 fn count_below(bytes: &[u8], limit: u8) -> usize
     ensures { λ r. ⌜ r ≡ countBelow limit (now (bytes .entry)) ⌝ }
 {
-    if bytes.len() < 192 {
-        return count_few(bytes, limit) as usize;
-    }
     let mut number = 0;
     let mut at = 0;
-    while at < bytes.len() {
-        let next = at + least(192, bytes.len() - at);
+    while bytes.len() - at > 192 {
+        let next = at + 192;
         number += count_few(&bytes[at..next], limit) as usize;
         at = next;
     }
-    number
+    number + count_few(&bytes[at..], limit) as usize
 }
 
 // The data size: how many bytes are no real-time bytes, given how many are below 80 hex.
@@ -128,19 +118,12 @@ fn packets_for(size: usize) -> usize
     (size - 1) / 6 + 1
 }
 
-// The status of the last packet: complete if it is the first, else end.
-fn last_status(packet: usize) -> u8
-    ensures { λ r. ⌜ (r ≡ statusFor (packet + 1) packet) × (r ≤ 3) ⌝ }
-{
-    if packet == 0 { 0 } else { 3 }
-}
-
 // The first word of a packet without its bytes: type 3 and group, status and count.
 fn head_word(group: u8, status: u8, count: usize) -> u32
     requires { ⌜ (group ≤ 15) × (status ≤ 3) × (count ≤ 6) ⌝ }
     ensures { λ r. ⌜ (r ≡ headWord group status count) × (r < 0x40000000) ⌝ }
 {
-    (0x30 + group as u32) * 0x100_0000 + status as u32 * 0x10_0000 + count as u32 * 0x1_0000
+    layout::first_word(3, group, status, count as u8, 0)
 }
 
 // The next `count` data bytes from a position on, real-time bytes passed over.
@@ -175,19 +158,12 @@ fn filled(taken: Taken, count: usize) -> Six
     }
 }
 
-// A byte as a number of 32 bits.
-fn wide(byte: u8) -> u32
-    ensures { λ r. ⌜ (r ≡ byte) × (r < 256) ⌝ }
-{
-    byte as u32
-}
-
 // Two bytes that stand at a position, as octets.
 fn two_at(inner: &[u8], at: usize) -> u32
     requires { ⌜ at + 2 ≤ length (now inner) ⌝ }
     ensures { λ r. ⌜ (r ≡ pairAt (now (inner .entry)) at) × (r < 65536) ⌝ }
 {
-    wide(inner[at]) * 0x100 + wide(inner[at + 1])
+    layout::word_of(0, 0, inner[at], inner[at + 1])
 }
 
 // Four bytes that stand at a position, as octets.
@@ -195,7 +171,7 @@ fn four_at(inner: &[u8], at: usize) -> u32
     requires { ⌜ at + 4 ≤ length (now inner) ⌝ }
     ensures { λ r. ⌜ r ≡ fourAt (now (inner .entry)) at ⌝ }
 {
-    two_at(inner, at) * 0x1_0000 + two_at(inner, at + 2)
+    layout::word_of(inner[at], inner[at + 1], inner[at + 2], inner[at + 3])
 }
 
 // The data bytes of a packet, so many from a position on, and unused octets, zero: six at once if their top bits are clear.
@@ -244,7 +220,7 @@ fn write_packets(inner: &[u8], size: usize, group: u8, packets: usize, words: &m
     }
     let count = size - 6 * packet;
     let six = take_six(inner, at, count);
-    let head = head_word(group, last_status(packet), count);
+    let head = head_word(group, layout::status_for(packets, packet), count);
     put(words, packet, head + six.high, six.low);
 }
 
@@ -253,7 +229,7 @@ fn write_packets(inner: &[u8], size: usize, group: u8, packets: usize, words: &m
 pub fn to_sysex7(bytes: &[u8], group: u8, words: &mut [u32]) -> Written
     ensures { λ r. ⌜ (writtenMeaning r, now (words .exit)) ≡ toSysex7 (now (bytes .entry)) group (now (words .entry)) ⌝ }
 {
-    if words.len() > 16384 {
+    if words.len() > layout::MOST_WORDS {
         return refuse(Refusal::Long, 0);
     }
     if group > 15 {

@@ -1,4 +1,4 @@
--- `stream::count_below`: part after part. Assumes nothing.
+-- `stream::count_below`: part after part, and the rest. Assumes nothing.
 use borrow.Author.Needs.{needs}
 use mathlib.Core.Path.{_≡_}
 use Prim.Native.Nat.{_+_, _-_}
@@ -16,16 +16,18 @@ abbrev μ-loop : tie.MeasureT-loop
 
 loop-again : tie.Need-loop-again Inv-loop μ-loop
 loop-again c =
-    let n = c .before .before in
-    let l = n .before .before in
-    let e : l .loop .at + n .least .result - l .loop .at ≡ n .least .result = omega arith in
-    rw (c .count-few2 .ensures, e) (counted-more (l .loop .inv) (n .least .result) (omega (arith, n .least .ensures)))
+    let l = c .before .before .before in
+    let e : l .loop .at + 192 - l .loop .at ≡ 192 = omega arith in
+    rw (c .count-few .ensures, e) (counted-more (l .loop .inv) 192 (omega arith))
 
-few : tie.Need-count-few-requires-2 Inv-loop μ-loop
-few c κs =
-    let n = c .before in
-    let l = n .before .before in
-    omega (arith, length-take (l .loop .at + n .least .result - l .loop .at) (drop (l .loop .at) (l .before .before .before .args .bytes .now)), n .least .ensures)
+-- what is left is counted by itself
+rest : (c : tie.After-count-few2 Inv-loop μ-loop) → let l = c .before .before .before in
+    Counted (l .before .before .args .bytes .now) (l .before .before .args .limit) (length (l .before .before .args .bytes .now)) (l .loop .number + c .count-few2 .result)
+rest c =
+    let l = c .before .before .before in
+    let n = length (l .before .before .args .bytes .now) - l .loop .at in
+    let e : l .loop .at + n ≡ length (l .before .before .args .bytes .now) = omega (arith, l .loop .inv .within) in
+    rw (c .count-few2 .ensures) (rw e at (counted-more (l .loop .inv) n (omega arith)))
 
 pub count-below-spec : {M : Type 1} → statement M
 count-below-spec =
@@ -33,19 +35,21 @@ count-below-spec =
     (tie.spec
     Inv-loop
     μ-loop
-    (λ c κs. search needs)
-    (λ c. search needs)
-    (λ c. search needs)
     (λ c. counted-none)
-    (λ c. search needs)
-    (λ c κs. search needs)
-    (λ c. search needs)
+    (λ c. omega (arith, c .loop .inv .within))
     (λ c. search needs)
     (λ c. search needs)
     (λ c. search needs)
-    few
+    (λ c. search needs)
+    (λ c κs. let l = c .before .before in omega (arith, length-take (l .loop .at + 192 - l .loop .at) (drop (l .loop .at) (l .before .before .args .bytes .now))))
     (λ c. search needs)
     (λ c. omega (arith, counted-most (loop-again c)))
     (λ c. search needs)
     loop-again
-    (λ c. counted-all (c .before .loop .inv) (c .loop-test .left)))
+    (λ c. search needs)
+    (λ c. search needs)
+    (λ c. search needs)
+    (λ c κs. let l = c .before .before in let s = l .before .before .args .bytes .now in omega (arith, length-take (length s - l .loop .at) (drop (l .loop .at) s)))
+    (λ c. search needs)
+    (λ c. omega (arith, counted-most (rest c)))
+    (λ c. counted-all (rest c) (omega arith)))

@@ -7,7 +7,7 @@ use lib.ListN.{length}
 use Rattle.ump.specs.Packet.{sysex7}
 use Rattle.ump.specs.Packing.{statusFor, packetsFor}
 use Rattle.ump.specs.Stream.{withoutRealTime}
-use Rattle.ump.proofs.Sizes.{packets-are, packets-pos}
+use Rattle.ump.proofs.Sizes.{packets-are, packets-pos, status-small}
 use Rattle.stream.specs.Steps.{onward, headWord}
 use Rattle.stream.proofs.Writing.{Wrote, Led, led-first, led-more, wrote-none, wrote-six, wrote-last, wrote-more, wrote-all}
 use Rattle.stream.proofs.write_packets.Statement.{statement}
@@ -66,7 +66,7 @@ written c =
     let e = t .before in
     let l = e .before in
     rw (c .put2 .ensures)
-    (wrote-more (some l) (l .loop .inv .2) (omega (arith, all e)) (start l .pre .2) (rest e) (rw (h .before .last-status .ensures .0, all e) at (h .head-word3 .ensures .0)) (t .take-six2 .ensures))
+    (wrote-more (some l) (l .loop .inv .2) (omega (arith, all e)) (start l .pre .2) (rest e) (rw (h .before .status-for .ensures) at (h .head-word3 .ensures .0)) (t .take-six2 .ensures))
 
 returns : tie.Need-returns Inv-loop μ-loop
 returns c =
@@ -94,7 +94,7 @@ write-packets-spec =
     (λ c. fewer c)
     (λ c κs. rest c)
     (λ c κs. search needs)
-    (λ c κs. let l = c .before .before in (search needs, search needs, omega (arith, rest l)))
+    (λ c κs. let l = c .before .before in (search needs, omega (arith, c .status-for .ensures, status-small (start (l .before) .args .packets) (l .before .loop .packet)), omega (arith, rest l)))
     (λ c. search needs)
     (λ c κs. let l = c .before .before .before .before .before in omega (arith, l .before .loop .inv .2 .kept, all l, start (l .before) .pre .2))
     (λ c. written (c .before .before) .kept)

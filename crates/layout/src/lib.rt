@@ -1,5 +1,5 @@
-// The layout of packets in words, each thing once: the fields of a first word, words and octets, the status by place, the bytes that a count
-// carries, and the limits. Each call is total.
+// The layout of packets in words, each thing once: the fields of a first word, words and octets, the status by place, the bytes that a
+// count carries, and the limits. Each call is total.
 ghost use mathlib.Core.Path.{_≡_};
 ghost use Prim.Native.Nat.{_+_, _*_, _%_};
 ghost use Rattle.ump.specs.Word.{nibble, octet, word as wordOf, octetField, shift, withPart};

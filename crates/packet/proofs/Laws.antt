@@ -6,6 +6,7 @@ use Prim.Native.Nat.{ℕ, _+_, _-_, _*_, _/_, _%_, _^_, _≤_, _<_}
 use native.Mathlib.Omega.{arith}
 use lib.Dec.{eqb, ltb}
 use lib.ListN.{length, getD}
+use lib.Pow.{mod-mod-pow}
 use mir.Syntax.{w32}
 use mir.Val.{Fits}
 use borrow.Author.Tests.{eq-eqb, ne-eqb, lt-ltb, le-ltb, le-leb, ltb-false, eqb-true, eqb-false}
@@ -22,11 +23,10 @@ use Rattle.packet.specs.Steps.{plain, counted, decide8, payloadByte, put
 -- ---- the count and the status
 
 module _ (shape : Shape) (status count : ℕ) where
-  pub counted-in : (size : ℕ) → size ≤ shape .room → count ≡ size + shape .bias → plain status size ≡ counted shape status count
-  unfolding counted sizeOf
-  counted-in size h e =
-      let less : count - shape .bias ≡ size = omega arith in
-      rw (le-ltb count (shape .bias) (omega arith), le-ltb (shape .room + shape .bias) count (omega arith), le-leb count (shape .room + shape .bias) (omega arith), less)
+  pub counted-in : (size : ℕ) → size ≡ sizeOf shape count → shape .bias ≤ count → count ≤ shape .room + shape .bias
+      → plain status size ≡ counted shape status count
+  unfolding counted
+  counted-in size e low high = rw (e, le-ltb _ _ low, le-ltb _ _ high)
 
   pub counted-low : count < shape .bias → refused 10 0 ≡ counted shape status count
   unfolding counted
@@ -71,15 +71,14 @@ zeros-word w ws h = go (eqb w 0) refl
 
 -- octet 3 and words 1 to 3, word by word
 pub blank-words : (words : List ℕ) → 4 ≤ length words → ((i : ℕ) → Fits w32 (getD words i 0))
-    → blank words ≡ eqb (getD words 0 0 % 256) 0 && (eqb (getD words 1 0) 0 && (eqb (getD words 2 0) 0 && eqb (getD words 3 0) 0))
+    → blank words ≡ eqb (octet (getD words 0 0) 3) 0 && (eqb (getD words 1 0) 0 && (eqb (getD words 2 0) 0 && eqb (getD words 3 0) 0))
 unfolding blank octets
 blank-words [] h f = absurd (omega arith)
 blank-words (a ∷ []) h f = absurd (omega arith)
 blank-words (a ∷ b ∷ []) h f = absurd (omega arith)
 blank-words (a ∷ b ∷ c ∷ []) h f = absurd (omega arith)
 blank-words (a ∷ b ∷ c ∷ d ∷ ws) h f =
-    let low : octet a 3 ≡ a % 256 = omega arith in
-    rw (low, zeros-word b (c ∷ d ∷ []) (f 1 .fits), zeros-word c (d ∷ []) (f 2 .fits), zeros-word d [] (f 3 .fits), and-true)
+    rw (zeros-word b (c ∷ d ∷ []) (f 1 .fits), zeros-word c (d ∷ []) (f 2 .fits), zeros-word d [] (f 3 .fits), and-true)
 
 -- ---- the readers
 
@@ -155,6 +154,12 @@ reader7 = record { shape = sysex7; read = readPacket7; decision = decision7; rea
 
 -- ---- what a reader reads, case by case
 
+-- the low bits of an octet are those of the number that it is a part of
+narrow : (s : Shape) (y : ℕ) → y % 2 ^ 8 % s .limit ≡ y % 2 ^ s .width
+narrow s y =
+    let e : 8 ≡ (8 - s .width) + s .width = omega (arith, s .width-fits) in
+    rw (← (s .limit-is)) (rw (← e) at (mod-mod-pow y (8 - s .width) (s .width)))
+
 module _ (reader : Reader) (words : List ℕ) where
   pub short : length words < reader .shape .words → refused 3 0 ≡ reader .read words
   unfolding framed
@@ -175,7 +180,7 @@ module _ (reader : Reader) (words : List ℕ) where
   byte-given i e =
       let place = (i + header (reader .shape)) / 4 in
       let first : reader .shape .words * 0 + place ≡ place = omega arith in
-      rw (← e, reader .shape .limit-is, first)
+      rw (← e, first, narrow (reader .shape) _)
 
   pub byte-refused : (i : ℕ) {number place : ℕ} → refused number place ≡ reader .read words
       → refused number place ≡ packetByte (reader .shape) (reader .read words) words i

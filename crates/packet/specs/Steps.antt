@@ -2,10 +2,11 @@
 -- Assumes nothing.
 use mathlib.Core.Bool.{Bool, not, _&&_, _||_}
 use mathlib.Core.List.{List}
-use Prim.Native.Nat.{ℕ, _+_, _-_, _*_, _/_, _%_, _^_}
+use Prim.Native.Nat.{ℕ, _+_, _/_, _%_}
 use lib.Dec.{ltb, leb}
 use lib.ListN.{getD, set}
 use Rattle.refusal.specs.Answer.{Answer, gives, Verdict, _▷_, guard, writes}
+use Rattle.ump.specs.Word.{octet}
 use Rattle.ump.specs.Packet.{Shape, sysex8, sizeOf}
 use Rattle.ump.specs.Single.{Kind, kindOf, kindFor, unexpected, withGroup}
 
@@ -31,7 +32,7 @@ decide8 status count zeroed =
 -- a payload byte by the octets before it and what it is below
 unfoldable pub payloadByte : ℕ → ℕ → List ℕ → ℕ → ℕ → Answer ℕ
 payloadByte header limit words size i =
-    guard (leb size i) 13 0 ▷ gives (getD words ((i + header) / 4) 0 / 2 ^ ((3 - (i + header) % 4) * 8) % limit)
+    guard (leb size i) 13 0 ▷ gives (octet (getD words ((i + header) / 4) 0) ((i + header) % 4) % limit)
 
 unfoldable pub putGroup : List ℕ → ℕ → Verdict × List ℕ
 putGroup words group = writes (guard (ltb 15 group) 16 0) words tt (set words 0 (withGroup (getD words 0 0) group))

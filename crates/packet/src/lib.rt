@@ -3,7 +3,6 @@ ghost use mathlib.Core.Path.{_≡_};
 ghost use Prim.Native.Nat.{_+_, _*_, _≤_, _<_};
 ghost use lib.ListN.{length};
 ghost use Rattle.refusal.specs.Meaning.{storedMeaning, byteMeaning};
-ghost use Rattle.ump.specs.Single.{withGroup};
 ghost use Rattle.packet.specs.Meaning.{decidedMeaning};
 ghost use Rattle.packet.specs.Steps.{plain, payloadByte, putGroup};
 use refusal::ByteRead;
@@ -36,7 +35,7 @@ pub(crate) enum Decided {
 }
 
 // Status 0 complete, 1 start, 2 continue, 3 end, of a packet with a count in range; Status for the rest.
-pub(crate) fn kind_of(status: u32, size: usize) -> Decided
+pub(crate) fn kind_of(status: u8, size: usize) -> Decided
     ensures { λ r. ⌜ decidedMeaning r ≡ plain status size ⌝ }
 {
     match status {
@@ -48,7 +47,8 @@ pub(crate) fn kind_of(status: u32, size: usize) -> Decided
     }
 }
 
-// Payload byte `index`, in octet (index + header) mod 4 of word (index + header) / 4 and below `limit`; Range for an index not below the size.
+// Payload byte `index`, in octet (index + header) mod 4 of word (index + header) / 4 and below `limit`; Range for an index not below
+// the size.
 pub(crate) fn payload_byte(
     words: &[u32],
     header: usize,
@@ -66,16 +66,7 @@ pub(crate) fn payload_byte(
         });
     }
     let place = index + header;
-    let word = words[place / 4];
-    ByteRead::Value(((word >> ((3 - place % 4) * 8)) % limit) as u8)
-}
-
-// The word with the group in nibble 1.
-fn with_group(word: u32, group: u8) -> u32
-    requires { ⌜ group ≤ 15 ⌝ }
-    ensures { λ r. ⌜ r ≡ withGroup word group ⌝ }
-{
-    word / 0x1000_0000 * 0x1000_0000 + group as u32 * 0x100_0000 + word % 0x100_0000
+    ByteRead::Value((layout::octet_of(words[place / 4], place) as u32 % limit) as u8)
 }
 
 // Sets the group in the first word; Field above 15.
@@ -89,6 +80,6 @@ pub(crate) fn put_group(words: &mut [u32], group: u8) -> Stored
             place: 0,
         });
     }
-    words[0] = with_group(words[0], group);
+    words[0] = layout::with_group(words[0], group);
     Stored::Done
 }

@@ -26,11 +26,11 @@ pub enum PacketRead {
 }
 
 // What the status says: the count is payload size, so 0 to 6; Count for the rest, then Status.
-fn decide(status: u32, count: u32) -> Decided
+fn decide(status: u8, count: u8) -> Decided
     ensures { λ r. ⌜ decidedMeaning r ≡ counted sysex7 status count ⌝ }
 {
     match count {
-        0..=6 => crate::kind_of(status, count as usize),
+        0..=6 => crate::kind_of(status, layout::sysex7_size(count)),
         _ => Decided::Refused(Refusal::Count),
     }
 }
@@ -46,17 +46,17 @@ pub fn read_packet(words: &[u32]) -> PacketRead
         });
     }
     let word = words[0];
-    if word / 0x1000_0000 % 16 != 3 {
+    if layout::type_of(word) != 3 {
         return PacketRead::Refused(Fault {
             refusal: Refusal::Type,
             place: 0,
         });
     }
-    let decided = decide(word / 0x10_0000 % 16, word / 0x1_0000 % 16);
+    let decided = decide(layout::status_of(word), layout::count_of(word));
     match decided {
         Decided::Kind(kind, size) => PacketRead::Packet(Packet {
             kind,
-            group: (word / 0x100_0000 % 16) as u8,
+            group: layout::group_of(word),
             size,
         }),
         Decided::Refused(refusal) => PacketRead::Refused(Fault { refusal, place: 0 }),

@@ -35,7 +35,7 @@ fn is_blank(words: &[u32]) -> bool
     requires { ⌜ 4 ≤ length (now words) ⌝ }
     ensures { λ r. ⌜ r ≡ blank (now (words .entry)) ⌝ }
 {
-    if words[0] % 256 != 0 {
+    if layout::octet_of(words[0], 3) != 0 {
         return false;
     }
     if words[1] != 0 {
@@ -48,29 +48,28 @@ fn is_blank(words: &[u32]) -> bool
 }
 
 // What the status says: the count is payload size plus one, so 1 to 14; Count for the rest.
-fn counted_kind(status: u32, count: u32) -> Decided
+fn counted_kind(status: u8, count: u8) -> Decided
     ensures { λ r. ⌜ decidedMeaning r ≡ counted sysex8 status count ⌝ }
 {
     match count {
-        1..=14 => crate::kind_of(status, (count - 1) as usize),
+        1..=14 => crate::kind_of(status, layout::sysex8_size(count)),
         _ => Decided::Refused(Refusal::Count),
     }
 }
 
 // An end packet of zeros: unexpected at count 1, earlier data valid, and at count 15, invalid; Count for the rest.
-fn blank_end(count: u32) -> Decided
+fn blank_end(count: u8) -> Decided
     ensures { λ r. ⌜ decidedMeaning r ≡ decide8 3 count true ⌝ }
 {
     match count {
         1 => Decided::Kind(Kind::UnexpectedEnd(Earlier::Valid), 0),
-        2..=14 => Decided::Kind(Kind::End, (count - 1) as usize),
         15 => Decided::Kind(Kind::UnexpectedEnd(Earlier::Invalid), 0),
-        _ => Decided::Refused(Refusal::Count),
+        _ => counted_kind(3, count),
     }
 }
 
 // The status nibble and the zero octets decide the kind; Status, then Count.
-fn decide(status: u32, count: u32, blank: bool) -> Decided
+fn decide(status: u8, count: u8, blank: bool) -> Decided
     ensures { λ r. ⌜ decidedMeaning r ≡ decide8 status count blank ⌝ }
 {
     match status {
@@ -97,18 +96,22 @@ pub fn read_packet(words: &[u32]) -> PacketRead
         });
     }
     let word = words[0];
-    if word / 0x1000_0000 % 16 != 5 {
+    if layout::type_of(word) != 5 {
         return PacketRead::Refused(Fault {
             refusal: Refusal::Type,
             place: 0,
         });
     }
-    let decided = decide(word / 0x10_0000 % 16, word / 0x1_0000 % 16, is_blank(words));
+    let decided = decide(
+        layout::status_of(word),
+        layout::count_of(word),
+        is_blank(words),
+    );
     match decided {
         Decided::Kind(kind, size) => PacketRead::Packet(Packet {
             kind,
-            group: (word / 0x100_0000 % 16) as u8,
-            id: (word / 256 % 256) as u8,
+            group: layout::group_of(word),
+            id: layout::id_of(word),
             size,
         }),
         Decided::Refused(refusal) => PacketRead::Refused(Fault { refusal, place: 0 }),

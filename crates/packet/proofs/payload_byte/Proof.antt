@@ -10,12 +10,12 @@ returns : tie.Need-returns
 unfolding payloadByte
 returns c = rw (le-leb _ _ (c .if1 .taken))
 
-cast-t18 : tie.Need-cast-t18
-cast-t18 c = record { fits = lt-of-lt-of-le (mod-lt _ (c .before .before .pre .2)) (c .before .before .pre .3) }
+cast-t17 : tie.Need-cast-t17
+cast-t17 c = let p = c .before .before .before .before .pre in record { fits = lt-of-lt-of-le (mod-lt _ (p .2)) (p .3) }
 
 returns-2 : tie.Need-returns-2
 unfolding payloadByte
-returns-2 c = rw (lt-leb _ _ (c .before .if1 .left))
+returns-2 c = rw (lt-leb _ _ (c .before .before .if1 .left), c .octet-of .ensures)
 
 pub payload-byte-spec : {M : Type 1} → statement M
 payload-byte-spec =
@@ -25,10 +25,8 @@ payload-byte-spec =
     (λ c. search needs)
     (λ c. search needs)
     (λ c. search needs)
+    (λ c κs. search needs)
     (λ c. search needs)
     (λ c. search needs)
-    (λ c. search needs)
-    (λ c. search needs)
-    (λ c. search needs)
-    cast-t18
+    cast-t17
     returns-2)

@@ -8,10 +8,10 @@ use Rattle.packet.proofs.sysex7.decide.Statement.{statement}
 use Rattle.packet.proofs.sysex7.decide.Tie as tie
 
 returns : tie.Need-returns
-returns c = c .kind-of .ensures ∙ counted-in sysex7 _ _ _ (omega arith) (omega arith)
+returns c = c .kind-of .ensures ∙ counted-in sysex7 _ _ _ (c .before .sysex7-size .ensures) (omega arith) (omega arith)
 
 returns-2 : tie.Need-returns-2
 returns-2 c = counted-high sysex7 _ _ (omega arith)
 
 pub decide-spec : {M : Type 1} → statement M
-decide-spec = tie.close (tie.spec (λ c κs. search needs) returns returns-2)
+decide-spec = tie.close (tie.spec (λ c κs. search needs) (λ c κs. search needs) returns returns-2)

@@ -7,7 +7,7 @@ use Prim.Native.Nat.{ℕ}
 use native.Mathlib.Omega.{arith}
 use Rattle.ump.specs.Packet.{sysex8, sizeOf}
 use Rattle.packet.specs.Steps.{decide8, counted}
-use Rattle.packet.proofs.Laws.{decide-plain, counted-in, counted-low, counted-high}
+use Rattle.packet.proofs.Laws.{decide-plain}
 use Rattle.packet.proofs.sysex8.blank_end.Statement.{statement}
 use Rattle.packet.proofs.sysex8.blank_end.Tie as tie
 
@@ -23,19 +23,7 @@ unfolding decide8 sizeOf
 returns-2 c = rw (c .match .keys2)
 
 returns-3 : tie.Need-returns-3
-returns-3 c =
-    let r = c .before .before .match .rest in
-    counted-in sysex8 3 _ _ (omega arith) (omega arith) ∙ expected _ (r .0 .1) (r .1)
-
-returns-4 : tie.Need-returns-4
-returns-4 c =
-    let r = c .before .match .rest in
-    counted-low sysex8 3 _ (omega arith) ∙ expected _ (r .0 .1) (r .1)
-
-returns-5 : tie.Need-returns-5
-returns-5 c =
-    let r = c .before .before .match .rest in
-    counted-high sysex8 3 _ (omega arith) ∙ expected _ (r .0 .1) (r .1)
+returns-3 c = let r = c .before .match .rest in c .counted-kind .ensures ∙ expected _ (r .0 .1) (r .1)
 
 pub blank-end-spec : {M : Type 1} → statement M
-blank-end-spec = tie.close (tie.spec (λ c. search needs) returns returns-2 returns-3 returns-4 returns-5)
+blank-end-spec = tie.close (tie.spec (λ c κs. search needs) returns returns-2 returns-3)

@@ -8,15 +8,16 @@ use Rattle.packet.proofs.sysex8.is_blank.Tie as tie
 returns : tie.Need-returns
 returns c =
     let k = c .before in
-    rw (blank-words _ (k .before .pre) (k .shared-slice-known .given), ne-eqb _ _ (c .if1 .taken))
+    let w = k .before in
+    rw (blank-words _ (w .before .before .pre) (w .shared-slice-known2 .given), ne-eqb _ _ (rw (k .octet-of .ensures) at (c .if1 .taken)))
 
 returns-2 : tie.Need-returns-2
 returns-2 c =
     let k = c .before in
     let e = k .before in
     rw (
-      blank-words _ (e .before .before .pre) (k .shared-slice-known2 .given),
-      eq-eqb _ _ (e .if1 .left),
+      blank-words _ (e .before .before .before .before .pre) (k .shared-slice-known3 .given),
+      eq-eqb _ _ (rw (e .before .octet-of .ensures) at (e .if1 .left)),
       ne-eqb _ _ (c .if2 .taken),
     )
 
@@ -26,8 +27,8 @@ returns-3 c =
     let f = k .before in
     let e = f .before .before in
     rw (
-      blank-words _ (e .before .before .pre) (k .shared-slice-known3 .given),
-      eq-eqb _ _ (e .if1 .left),
+      blank-words _ (e .before .before .before .before .pre) (k .shared-slice-known4 .given),
+      eq-eqb _ _ (rw (e .before .octet-of .ensures) at (e .if1 .left)),
       eq-eqb _ _ (f .if2 .left),
       ne-eqb _ _ (c .if3 .taken),
     )
@@ -38,8 +39,8 @@ returns-4 c =
     let f = g .before .before in
     let e = f .before .before in
     rw (
-      blank-words _ (e .before .before .pre) (c .shared-slice-known4 .given),
-      eq-eqb _ _ (e .if1 .left),
+      blank-words _ (e .before .before .before .before .pre) (c .shared-slice-known5 .given),
+      eq-eqb _ _ (rw (e .before .octet-of .ensures) at (e .if1 .left)),
       eq-eqb _ _ (f .if2 .left),
       eq-eqb _ _ (g .if3 .left),
     )
@@ -49,6 +50,7 @@ is-blank-spec =
     tie.close
     (tie.spec
     (λ c. search needs)
+    (λ c κs. search needs)
     returns
     (λ c. search needs)
     returns-2

@@ -1,0 +1,3 @@
+-- Each promise fixes its answer, and what it shuts out.
+pub mod Unique
+pub mod ShutOut

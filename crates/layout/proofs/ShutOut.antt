@@ -12,6 +12,7 @@ use Rattle.layout.proofs.status_of.Reads as status-of
 use Rattle.layout.proofs.count_of.Reads as count-of
 use Rattle.layout.proofs.id_of.Reads as id-of
 use Rattle.layout.proofs.word_of.Reads as word-of
+use Rattle.layout.proofs.first_word.Reads as first-word
 use Rattle.layout.proofs.octet_of.Reads as octet-of
 use Rattle.layout.proofs.with_octet.Reads as with-octet
 use Rattle.layout.proofs.with_group.Reads as with-group
@@ -28,11 +29,12 @@ abbrev sample : ℕ
 sample = 0x5A3E81FF
 
 -- A field: another one (type, count, status, next), counted from the least significant end (low), too wide (octet) or too narrow
--- (three, septet), the payload size for the count (size). A word: in the other order (backward), an octet's top bit lost (cut). An
--- octet: counted from the least significant end (low), none past the third (past); set, with the other octets lost (other). A group put
--- over the type (type), or one that is too big carried into it (past). An id in octet 3 (next), or octet 3 lost (other). Of a packet
--- that stands alone, start (alone), of one past the last, end (past). The bytes of a count: as many in SysEx8 (count), one fewer in SysEx7
--- (less), some for a count out of range (past).
+-- (three, septet), the payload size for the count (size). A word: in the other order (backward), an octet's top bit lost (cut). A first
+-- word: type and group changed over (other), a group that is too big carried into the type (past). An octet: counted from the least
+-- significant end (low), none past the third (past); set, with the other octets lost (other). A group put over the type (type), or one
+-- that is too big carried into it (past). An id in octet 3 (next), or octet 3 lost (other). Of a packet that stands alone, start (alone),
+-- of one past the last, end (past). The bytes of a count: as many in SysEx8 (count), one fewer in SysEx7 (less), some for a count out of
+-- range (past).
 record ShutOut : Type 0 where
   type-of-low : Shuts type-of.Post (sample, tt) 15
   type-of-octet : Shuts type-of.Post (sample, tt) 0x5A
@@ -46,6 +48,8 @@ record ShutOut : Type 0 where
   id-of-septet : Shuts id-of.Post (sample, tt) 0x01
   word-of-backward : Shuts word-of.Post (0x5A, (0x3E, (0x81, (0xFF, tt)))) 0xFF813E5A
   word-of-cut : Shuts word-of.Post (0x5A, (0x3E, (0x81, (0xFF, tt)))) 0x5A3E817F
+  first-word-other : Shuts first-word.Post (5, (10, (3, (14, (0x81, tt))))) 0xA53E8100
+  first-word-past : Shuts first-word.Post (5, (26, (3, (14, (0x81, tt))))) 0x6A3E8100
   octet-of-low : Shuts octet-of.Post (sample, (0, tt)) 0xFF
   octet-of-past : Shuts octet-of.Post (sample, (7, tt)) 0
   with-octet-low : Shuts with-octet.Post (sample, (0, (0, tt))) 0x5A3E8100
@@ -76,6 +80,8 @@ shut-out = record {
   id-of-septet = λ κs s p. wrong tt p;
   word-of-backward = λ κs s p. wrong tt p;
   word-of-cut = λ κs s p. wrong tt p;
+  first-word-other = λ κs s p. wrong tt p;
+  first-word-past = λ κs s p. wrong tt p;
   octet-of-low = λ κs s p. wrong tt p;
   octet-of-past = λ κs s p. wrong tt p;
   with-octet-low = λ κs s p. wrong tt p;

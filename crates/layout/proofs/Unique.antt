@@ -13,6 +13,8 @@ use Rattle.layout.proofs.id_of.Kinds as id-of-kinds
 use Rattle.layout.proofs.id_of.Reads as id-of
 use Rattle.layout.proofs.word_of.Kinds as word-of-kinds
 use Rattle.layout.proofs.word_of.Reads as word-of
+use Rattle.layout.proofs.first_word.Kinds as first-word-kinds
+use Rattle.layout.proofs.first_word.Reads as first-word
 use Rattle.layout.proofs.octet_of.Kinds as octet-of-kinds
 use Rattle.layout.proofs.octet_of.Reads as octet-of
 use Rattle.layout.proofs.with_octet.Kinds as with-octet-kinds
@@ -45,6 +47,9 @@ id-of-unique κs a x y s t p q = p ∙ sym q
 
 word-of-unique : FixesResult 0 word-of-kinds.ps word-of-kinds.r word-of.Post
 word-of-unique κs a x y s t p q = p ∙ sym q
+
+first-word-unique : FixesResult 0 first-word-kinds.ps first-word-kinds.r first-word.Post
+first-word-unique κs a x y s t p q = p ∙ sym q
 
 octet-of-unique : FixesResult 0 octet-of-kinds.ps octet-of-kinds.r octet-of.Post
 octet-of-unique κs a x y s t p q = p ∙ sym q

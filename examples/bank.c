@@ -36,7 +36,7 @@ static void print_words(const uint32_t *words, size_t length) {
 /* Prints the payload of the message, eight bytes to a line, with the reader. */
 static bool print_payload(const uint32_t *words, size_t length) {
     latchbeacon_cursor cursor = latchbeacon_sysex8_open(words, length, length);
-    if (cursor.refusal != 0) {
+    if (cursor.refusal != LATCHBEACON_ACCEPTED) {
         print_refusal("open", cursor.refusal, cursor.place);
         return false;
     }
@@ -57,7 +57,7 @@ static bool print_payload(const uint32_t *words, size_t length) {
 /* Checks the bank and prints what the check answers, its words and its payload. */
 static bool print_bank(const char *title, size_t length) {
     latchbeacon_message message = latchbeacon_sysex8_check(bank, LENT, length);
-    if (message.refusal != 0) {
+    if (message.refusal != LATCHBEACON_ACCEPTED) {
         print_refusal("check", message.refusal, message.place);
         return false;
     }
@@ -69,7 +69,7 @@ static bool print_bank(const char *title, size_t length) {
 
 /* Prints what a change did and answers the new length; 0 if it was refused. */
 static size_t print_change(const char *call, latchbeacon_change change) {
-    if (change.refusal != 0) {
+    if (change.refusal != LATCHBEACON_ACCEPTED) {
         print_refusal(call, change.refusal, change.place);
         return 0;
     }
@@ -89,7 +89,7 @@ static bool print_origins(size_t length, const size_t *edits, size_t numbers, co
     static const size_t octets[] = {1, 3, 11, 16, 19, 25, 32};
     for (size_t index = 0; index < sizeof octets / sizeof *octets; index++) {
         latchbeacon_origin origin = latchbeacon_sysex8_origin(bank, LENT, length, edits, numbers, bytes, count, octets[index]);
-        if (origin.refusal != 0) {
+        if (origin.refusal != LATCHBEACON_ACCEPTED) {
             print_refusal("origin", origin.refusal, origin.place);
             return false;
         }

@@ -40,7 +40,7 @@ static uint32_t words[LENT];
 /* Restores a dump in so many words and prints its message; answers the refusal. */
 static uint8_t restore(size_t number, size_t lent) {
     latchbeacon_number length = latchbeacon_store_restore(store, used, number, words, lent);
-    if (length.refusal != 0) {
+    if (length.refusal != LATCHBEACON_ACCEPTED) {
         printf("dump %zu in %zu words: refusal %u at %zu\n", number, lent, (unsigned)length.refusal, length.place);
         return length.refusal;
     }
@@ -55,7 +55,7 @@ static uint8_t restore(size_t number, size_t lent) {
 /* Describes a dump, and restores it in just the words that it needs; answers whether neither was refused. */
 static bool show(size_t number) {
     latchbeacon_dump dump = latchbeacon_store_describe(store, used, number);
-    if (dump.refusal != 0) {
+    if (dump.refusal != LATCHBEACON_ACCEPTED) {
         printf("dump %zu: refusal %u at %zu\n", number, (unsigned)dump.refusal, dump.place);
         return false;
     }
@@ -71,7 +71,7 @@ static bool show(size_t number) {
 /* Checks the store and prints how many dumps it has; answers whether it is good. */
 static bool check(void) {
     latchbeacon_number dumps = latchbeacon_store_check(store, used);
-    if (dumps.refusal != 0) {
+    if (dumps.refusal != LATCHBEACON_ACCEPTED) {
         printf("refusal %u at %zu\n", (unsigned)dumps.refusal, dumps.place);
         return false;
     }
@@ -91,7 +91,7 @@ static bool try_refused(void) {
 /* Marks a dump unwanted; answers the refusal. */
 static uint8_t mark(size_t number) {
     latchbeacon_number done = latchbeacon_store_mark(store, used, number);
-    if (done.refusal != 0) {
+    if (done.refusal != LATCHBEACON_ACCEPTED) {
         printf("mark dump %zu: refusal %u at %zu\n", number, (unsigned)done.refusal, done.place);
         return done.refusal;
     }
@@ -102,7 +102,7 @@ static uint8_t mark(size_t number) {
 /* Collects the store and goes on with the bytes that are still in use; answers whether it was not refused. */
 static bool collect(void) {
     latchbeacon_number length = latchbeacon_store_collect(store, used);
-    if (length.refusal != 0) {
+    if (length.refusal != LATCHBEACON_ACCEPTED) {
         printf("collect: refusal %u at %zu\n", (unsigned)length.refusal, length.place);
         return false;
     }

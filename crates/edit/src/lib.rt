@@ -42,9 +42,6 @@ pub enum Moved {
     Refused(Fault),
 }
 
-// No number within an edit is above this.
-const MOST: usize = 53248;
-
 // A refusal of a call on edits has place 0.
 fn fault(refusal: Refusal) -> Fault
     ensures { λ r. ⌜ r ≡ record { refusal = refusal; place = 0 } ⌝ }
@@ -59,10 +56,10 @@ fn is_bad(edit: Edit) -> bool
     if edit.to < edit.from {
         return true;
     }
-    if edit.to > MOST {
+    if edit.to > layout::MOST_BYTES {
         return true;
     }
-    edit.length > MOST
+    edit.length > layout::MOST_BYTES
 }
 
 // Growth, replacement length minus range length, may be below zero.

@@ -2,8 +2,10 @@
 use mathlib.Core.Path.{_≡_, refl, sym, ap, _∙_}
 use mathlib.Core.List.{List, _++_}
 use Prim.Native.Nat.{ℕ, zero, suc, _+_, _-_, _*_, _/_, _%_, _^_, _≤_, _<_, max}
+use native.Mathlib.Nat.{add-zero}
+use native.Mathlib.Decide.{ℕ-discrete}
 use native.Mathlib.Omega.{arith}
-use lib.ListN.{length, getD, set, take, drop, replicate, length-set}
+use lib.ListN.{length, getD, take, drop, replicate, length-set}
 use lib.Seq.{take-take, getD-set-same, getD-set-other, drop-set-lt}
 use Rattle.ump.specs.Word.{octet, word}
 use Rattle.ump.specs.Packet.{sysex8, groupAt, idAt, sizeAt, payload}
@@ -14,10 +16,11 @@ use Rattle.ump.proofs.First.{Side, under, over, side}
 use Rattle.ump.proofs.Sizes.{status-inner}
 use Rattle.flow.specs.Digits.{val}
 use Rattle.flow.specs.Flowing.{flowWord, numberWord}
+use Rattle.flow.specs.Heads.{innerHead}
 use Rattle.flow.proofs.Digits.{val-take}
 use Rattle.flow.proofs.Puts.{put-is}
 use Rattle.splice.specs.Accepted.{Accepted, Full}
-use Rattle.splice.specs.Header.{baseOf}
+use Rattle.splice.specs.Header.{baseOf, withHead, leveled}
 use Rattle.splice.specs.Thirteens.{body}
 use Rattle.splice.specs.Pieces.{Stands}
 use Rattle.splice.proofs.Bodies.{body-number, body-fits, body-of-number, body-injective}
@@ -64,21 +67,9 @@ words-number a b c d head (suc (suc (suc (suc r)))) ha hb hc hd l x f g h i = ab
 
 -- ---- the first words
 
-data Test (a b : ℕ) : Type 0 where
-  is : a ≡ b → Test a b
-  isnt : (a ≡ b → ⊥) → Test a b
-
-test : (a b : ℕ) → Test a b
-test a b = go (side a b) (side b a)
-  where
-    go : Side a b → Side b a → Test a b
-    go (under h _) _ = isnt (λ e. omega arith)
-    go (over h _) (under l _) = isnt (λ e. omega arith)
-    go (over h _) (over l _) = is (omega arith)
-
 module _ {w : List ℕ} {len n : ℕ} (ok : Accepted w len n) (full : Full w len) (small : (k : ℕ) → getD w k 0 < 2 ^ 32) (base : ℕ) (base-is : base ≡ baseOf (getD w 0 0)) where
   abbrev head : ℕ
-  head = base + 3014656
+  head = innerHead sysex8 base
 
   head-plain : head % 256 ≡ 0
   head-plain = omega arith
@@ -89,7 +80,7 @@ module _ {w : List ℕ} {len n : ℕ} (ok : Accepted w len n) (full : Full w len
       let s : statusFor (len / 4) p ≡ 2 = status-inner (len / 4) p (λ i. omega arith) (λ i. omega arith) (λ i. omega arith) in
       let c : getD w (4 * p) 0 / 65536 % 16 ≡ 14 = omega (arith, size-is ok p (omega arith), full p high, counts ok p (omega arith)) in
       let here : word (80 + groupAt sysex8 w 0) (2 * 16 + 14) (octet (getD w 0 0) 2) (getD w (4 * p) 0 % 256) ≡ getD w (4 * p) 0 = rw (s, c) at (first-is ok p (omega arith) (small (4 * p))) in
-      let shared : base ≡ word (80 + groupAt sysex8 w 0) 0 (octet (getD w 0 0) 2) 0 = base-is ∙ messages.base-is ok (small 0) ∙ heads.base-is sysex8 (groupAt sysex8 w 0) (idAt sysex8 w 0) in
+      let shared : base ≡ word (80 + groupAt sysex8 w 0) 0 (octet (getD w 0 0) 2) 0 = base-is ∙ messages.base-is ok ∙ heads.base-is sysex8 (groupAt sysex8 w 0) (idAt sysex8 w 0) in
       alike (getD w (4 * p) 0) (octet (getD w 0 0) 2) (groupAt sysex8 w 0) here shared
     where
       alike : (x id g : ℕ) → word (80 + g) 46 id (x % 256) ≡ x → base ≡ word (80 + g) 0 id 0 → x ≡ head + x % 256
@@ -98,92 +89,85 @@ module _ {w : List ℕ} {len n : ℕ} (ok : Accepted w len n) (full : Full w len
   abbrev last : ℕ
   last = len - 4
 
+  abbrev once : List ℕ
+  once = withHead head w 0
+
   -- all of them with one head
-  abbrev pub leveled : List ℕ
-  leveled =
-      let once = set w 0 (head + getD w 0 0 % 256) in
-      set once last (head + getD once last 0 % 256)
+  abbrev level : List ℕ
+  level = leveled head w len
 
   module _ (k : ℕ) where
     -- a word that is no first one
-    other-word : (k % 4 ≡ 0 → ⊥) → getD leveled k 0 ≡ getD w k 0
-    other-word h =
-        let whole = inside ok .1 .1 .0 in
-        getD-set-other (set w 0 (head + getD w 0 0 % 256)) last k _ 0 (λ e. h (rows k e)) ∙ getD-set-other w 0 k _ 0 (λ e. h (omega arith))
+    other-word : (k % 4 ≡ 0 → ⊥) → getD level k 0 ≡ getD w k 0
+    other-word h = getD-set-other once last k _ 0 (λ e. h (rows k e)) ∙ getD-set-other w 0 k _ 0 (λ e. h (omega arith))
       where
         rows : (k : ℕ) → k ≡ len - 4 → k % 4 ≡ 0
         rows k e = omega (arith, inside ok)
 
-  abbrev once : List ℕ
-  once = set w 0 (head + getD w 0 0 % 256)
-
   -- the first words of its packets
-  head-word : (p : ℕ) → p < len / 4 → getD leveled (4 * p) 0 ≡ head + getD w (4 * p) 0 % 256
-  head-word p h = go (test (4 * p) last) (test (4 * p) 0)
+  head-word : (p : ℕ) → p < len / 4 → getD level (4 * p) 0 ≡ head + getD w (4 * p) 0 % 256
+  head-word p h = go (ℕ-discrete (4 * p) last) (ℕ-discrete (4 * p) 0)
     where
       long : length once ≡ length w
       long = length-set w 0 (head + getD w 0 0 % 256)
 
-      byte-once : (i : ℕ) → Test i 0 → getD once i 0 % 256 ≡ getD w i 0 % 256
-      byte-once i (is e) = rw (e, getD-set-same w 0 (head + getD w 0 0 % 256) 0 (omega (arith, inside ok))) (omega (arith, head-plain))
-      byte-once i (isnt e) = ap (λ (x : ℕ). x % 256) (getD-set-other w 0 i _ 0 e)
+      byte-once : (i : ℕ) → Dec (i ≡ 0) → getD once i 0 % 256 ≡ getD w i 0 % 256
+      byte-once i (yes e) = rw (e, getD-set-same w 0 (head + getD w 0 0 % 256) 0 (omega (arith, inside ok))) (omega (arith, head-plain))
+      byte-once i (no e) = ap (λ (x : ℕ). x % 256) (getD-set-other w 0 i _ 0 e)
 
-      go : Test (4 * p) last → Test (4 * p) 0 → getD leveled (4 * p) 0 ≡ head + getD w (4 * p) 0 % 256
-      go (is e) _ = rw e (getD-set-same once last _ 0 (omega (arith, long, inside ok)) ∙ ap (λ (x : ℕ). head + x) (byte-once last (test last 0)))
-      go (isnt e) (is z) = getD-set-other once last (4 * p) _ 0 e ∙ rw z (getD-set-same w 0 _ 0 (omega (arith, inside ok)))
-      go (isnt e) (isnt z) =
+      go : Dec (4 * p ≡ last) → Dec (4 * p ≡ 0) → getD level (4 * p) 0 ≡ head + getD w (4 * p) 0 % 256
+      go (yes e) _ = rw e (getD-set-same once last _ 0 (omega (arith, long, inside ok)) ∙ ap (λ (x : ℕ). head + x) (byte-once last (ℕ-discrete last 0)))
+      go (no e) (yes z) = getD-set-other once last (4 * p) _ 0 e ∙ rw z (getD-set-same w 0 _ 0 (omega (arith, inside ok)))
+      go (no e) (no z) =
           getD-set-other once last (4 * p) _ 0 e ∙ getD-set-other w 0 (4 * p) _ 0 z ∙ between p (omega arith) (inner (len / 4) (inside ok .1 .1 .0) e)
         where
           inner : (packets : ℕ) → len ≡ 4 * packets → (4 * p ≡ len - 4 → ⊥) → p + 1 < len / 4
           inner packets q n = omega (arith, n)
 
   -- each word by the number of its packet
-  by-number : (p r : ℕ) → p < len / 4 → r < 4 → getD leveled (4 * p + r) 0 ≡ numberWord sysex8 head (val 13 (body w p)) r
+  by-number : (p r : ℕ) → p < len / 4 → r < 4 → getD level (4 * p + r) 0 ≡ numberWord sysex8 head (val 13 (body w p)) r
   by-number p r h l =
       let z : 4 * p + 0 ≡ 4 * p = omega arith in
       rw (body-number w p (small (4 * p + 1)) (small (4 * p + 2)) (small (4 * p + 3)))
-      (words-number (getD w (4 * p) 0) (getD w (4 * p + 1) 0) (getD w (4 * p + 2) 0) (getD w (4 * p + 3) 0) head r (small (4 * p)) (small (4 * p + 1)) (small (4 * p + 2)) (small (4 * p + 3)) l (getD leveled (4 * p + r) 0)
+      (words-number (getD w (4 * p) 0) (getD w (4 * p + 1) 0) (getD w (4 * p + 2) 0) (getD w (4 * p + 3) 0) head r (small (4 * p)) (small (4 * p + 1)) (small (4 * p + 2)) (small (4 * p + 3)) l (getD level (4 * p + r) 0)
       (λ e. rw (e, z) (head-word p h))
       (λ e. rw e (other-word (4 * p + 1) (λ i. omega arith)))
       (λ e. rw e (other-word (4 * p + 2) (λ i. omega arith)))
       (λ e. rw e (other-word (4 * p + 3) (λ i. omega arith))))
 
-  same-body : (p : ℕ) → p < len / 4 → body leveled p ≡ body w p
-  same-body p h = body-injective leveled w p p (body-of-number leveled p head (val 13 (body w p)) (λ r l. by-number p r h l) (body-fits w p) head-plain)
+  same-body : (p : ℕ) → p < len / 4 → body level p ≡ body w p
+  same-body p h = body-injective level w p p (body-of-number level p head (val 13 (body w p)) (λ r l. by-number p r h l) (body-fits w p) head-plain)
 
   packet-there : (q s : ℕ) → 0 < s → 13 * q + s ≤ length (payloadOf sysex8 w len) → q < len / 4
   packet-there q s h l = omega (arith, size-fits ok, ok .sized)
 
-  pub leveled-stands : Stands leveled (payloadOf sysex8 w len) head 0 0
+  pub leveled-stands : Stands (leveled (innerHead sysex8 base) w len) (payloadOf sysex8 w len) (innerHead sysex8 base) 0 0
   leveled-stands = record {
     whole = λ q r a b c. words q r b c;
     part = λ q s a b c. bytes q s b c (side 0 s);
   }
     where
-      stays : (q : ℕ) → q + 0 ≡ q
-      stays q = omega arith
-
-      words : (q r : ℕ) → 13 * q + 13 ≤ length (payloadOf sysex8 w len) → r < 4 → getD leveled (4 * (q + 0) + r) 0 ≡ flowWord sysex8 head (payloadOf sysex8 w len) (4 * q + r)
+      words : (q r : ℕ) → 13 * q + 13 ≤ length (payloadOf sysex8 w len) → r < 4 → getD level (4 * (q + 0) + r) 0 ≡ flowWord sysex8 head (payloadOf sysex8 w len) (4 * q + r)
       words q r b c =
           let h = packet-there q 13 (omega arith) b in
           let n : val 13 (body w q) ≡ val 13 (drop (13 * q) (payloadOf sysex8 w len)) =
           sym (val-take 13 13 (body w q) (omega arith)) ∙ ap (val 13) (standing ok full q 13 h (omega arith) (omega (arith, ok .sized))) ∙ val-take 13 13 (drop (13 * q) (payloadOf sysex8 w len)) (omega arith) in
-          rw (stays q) (by-number q r h c ∙ put-is sysex8 head q (val 13 (body w q)) (payloadOf sysex8 w len) n r c)
+          rw (add-zero q) (by-number q r h c ∙ put-is sysex8 head q (val 13 (body w q)) (payloadOf sysex8 w len) n r c)
 
-      bytes : (q s : ℕ) → s ≤ 13 → 13 * q + s ≤ length (payloadOf sysex8 w len) → Side 0 s → take s (body leveled (q + 0)) ≡ take s (drop (13 * q) (payloadOf sysex8 w len))
+      bytes : (q s : ℕ) → s ≤ 13 → 13 * q + s ≤ length (payloadOf sysex8 w len) → Side 0 s → take s (body level (q + 0)) ≡ take s (drop (13 * q) (payloadOf sysex8 w len))
       bytes q s b c (under l _) =
           let h = packet-there q s l c in
-          rw (stays q) (ap (take s) (same-body q h) ∙ standing ok full q s h b (omega (arith, ok .sized)))
+          rw (add-zero q) (ap (take s) (same-body q h) ∙ standing ok full q s h b (omega (arith, ok .sized)))
       bytes q s b c (over l _) =
           let z : s ≡ 0 = omega arith in
           rw z
 
   -- what stands behind it is as it was
-  pub leveled-stored : (m : List ℕ) → stored leveled len m ≡ stored w len m
+  pub leveled-stored : (m : List ℕ) → stored (leveled (innerHead sysex8 base) w len) len m ≡ stored w len m
   unfolding stored
   leveled-stored m =
       let k = max len (length m) in
-      let behind : drop k leveled ≡ drop k w = drop-set-lt k once last _ (far len (length m) (inside ok .1 .1 .1)) ∙ drop-set-lt k w 0 _ (some len (length m) (inside ok .1 .1 .1)) in
+      let behind : drop k level ≡ drop k w = drop-set-lt k once last _ (far len (length m) (inside ok .1 .1 .1)) ∙ drop-set-lt k w 0 _ (some len (length m) (inside ok .1 .1 .1)) in
       ap (λ (l : List ℕ). m ++ (replicate (len - length m) 0 ++ l)) behind
     where
       far : (len n : ℕ) → 0 < len / 4 → len - 4 < max len n
@@ -192,5 +176,5 @@ module _ {w : List ℕ} {len n : ℕ} (ok : Accepted w len n) (full : Full w len
       some : (len n : ℕ) → 0 < len / 4 → 0 < max len n
       some len n h = omega arith
 
-  pub leveled-long : length leveled ≡ length w
-  leveled-long = length-set once last _ ∙ length-set w 0 _
+pub leveled-long : (head : ℕ) (w : List ℕ) (len : ℕ) → length (leveled head w len) ≡ length w
+leveled-long head w len = simp length-set

@@ -1,14 +1,15 @@
 -- The loop that packs a message, packet by packet. Assumes nothing.
 use mathlib.Core.Path.{_≡_, refl, sym, ap, _∙_}
 use mathlib.Core.List.{List}
-use Prim.Native.Nat.{ℕ, suc, _+_, _-_, _*_, _/_, _%_, _^_, _≤_, _<_}
+use Prim.Native.Nat.{ℕ, _+_, _*_, _/_, _^_, _≤_, _<_}
 use native.Mathlib.Omega.{arith}
 use lib.ListN.{length, getD}
-use Rattle.ump.specs.Word.{Below}
-use Rattle.ump.specs.Packet.{sysex8, groupAt, idAt, sizeAt, joined, payload}
+use Rattle.ump.specs.Word.{nibble, Below}
+use Rattle.ump.specs.Packet.{sysex8, groupAt, idAt, sizeOf, countAt, sizeAt, joined, payload}
 use Rattle.ump.specs.Packing.{packetsFor, wordsFor}
 use Rattle.ump.specs.Check.{payloadOf}
 use Rattle.ump.specs.Splice.{rewritten}
+use Rattle.ump.proofs.Sizes.{size-small}
 use Rattle.ump.proofs.Message.{length-payload}
 use Rattle.ump.proofs.Splicing.{below-payload}
 use Rattle.flow.specs.Digits.{val}
@@ -17,16 +18,14 @@ use Rattle.flow.specs.Heads.{baseFor, innerHead}
 use Rattle.flow.proofs.Flowing.{flow-start, flow-step}
 use Rattle.flow.proofs.Poured.{flow-end}
 use Rattle.splice.specs.Accepted.{Accepted}
-use Rattle.splice.specs.Header.{baseOf}
-use Rattle.splice.specs.Zeros.{zeroed}
+use Rattle.splice.specs.Header.{baseOf, finished}
 use Rattle.splice.specs.Thirteens.{body, frontOf}
 use Rattle.splice.specs.Pieces.{none, taken, Reaches, Appends, Flows, Flushed}
 use Rattle.splice.specs.declared.pending.Pending.{Pending}
-use Rattle.splice.proofs.Messages.{inside, there, counts, size-is, end-fits, base-is}
-use Rattle.splice.proofs.Lengths.{words-number}
-use Rattle.splice.proofs.Finished.{headed, finished}
+use Rattle.splice.proofs.Messages.{inside, there, end-fits, base-is}
+use Rattle.splice.proofs.Finished.{finished-is}
 use Rattle.splice.proofs.Sums.{flows-padded}
-use Rattle.splice.proofs.Taken.{size-most, taken-next, taken-inside, piece-number}
+use Rattle.splice.proofs.Taken.{taken-next, taken-inside, piece-number}
 
 -- the packets before this one are taken
 pub record Repacks (w : List ℕ) (len head p : ℕ) (flow : Pending) (us : List ℕ) : Type 0 where
@@ -55,57 +54,49 @@ module _ {w : List ℕ} {len n : ℕ} (ok : Accepted w len n) (head : ℕ) where
     same : (k : ℕ) → 4 * p ≤ k → getD us k 0 ≡ getD w k 0
     same k l = f .flows .rest k (omega (arith, behind))
 
-    pub repack-ready : head ≤ 4294967040
-        → ((flow .packet ≤ p) × ((4 * p + 4 ≤ length us) × Reaches (length us) head flow 0)) × ((0 < getD us (4 * p) 0 / 65536 % 16) × (getD us (4 * p) 0 / 65536 % 16 ≤ 14))
+    pub repack-ready : head ≤ 4294967040 → (flow .packet ≤ p) × ((4 * p + 4 ≤ length us) × Reaches (length us) head flow 0)
     repack-ready free =
         let long : 4 * p + 4 ≤ length us = omega (arith, f .flows .long, there ok p h) in
-        let padded = flows-padded (f .flows) below in (
-          (
-            behind,
-            (long, record { padded = padded; fits = omega (arith, behind, padded .few); small = omega (arith, f .flows .long, inside ok); free = free }),
-          ),
-          rw (same (4 * p) (omega arith)) (counts ok p h),
-        )
+        let padded = flows-padded (f .flows) below in
+        (behind, (long, record { padded = padded; fits = omega (arith, behind, padded .few); small = omega (arith, f .flows .long, inside ok); free = free }))
 
     pub repack-step : (us′ : List ℕ) (r : Pending)
-        → Appends us us′ head flow (frontOf (val 13 (body us p)) (getD us (4 * p) 0 / 65536 % 16 - 1)) (getD us (4 * p) 0 / 65536 % 16 - 1) r
+        → Appends us us′ head flow (frontOf (val 13 (body us p)) (sizeAt sysex8 us p)) (sizeAt sysex8 us p) r
         → Repacks w len head (p + 1) r us′
     repack-step us′ r a =
         let s = sizeAt sysex8 w p in
-        let size : getD us (4 * p) 0 / 65536 % 16 - 1 ≡ s = ap (λ (x : ℕ). x / 65536 % 16 - 1) (same (4 * p) (omega arith)) ∙ sym (size-is ok p h) in
+        let size : sizeAt sysex8 us p ≡ s = ap (λ (x : ℕ). sizeOf sysex8 (nibble x 3)) (same (4 * p) (omega arith)) in
         let a′ : Appends us us′ head flow (frontOf (val 13 (body us p)) s) s r = rw size at a in
         let inside : taken flow + s ≤ length bytes = rw (f .all) (taken-inside ok p h) in
         let piece : frontOf (val 13 (body us p)) s ≡ val 13 _ = piece-number ok p h us same in
-        let step = flow-step (f .flows) below (a′ .appended) (size-most ok p h) inside (rw (f .all) piece) in
+        let step = flow-step (f .flows) below (a′ .appended) (size-small sysex8 (countAt sysex8 w p)) inside (rw (f .all) piece) in
         record { flows = step .0; all = step .1 ∙ rw (f .all) (taken-next ok p h) }
 
 -- ---- the numbers that packing goes by
 
 pub record Bounds (w : List ℕ) (len n base head end packets : ℕ) : Type 0 where
   pub shared : base ≡ baseFor sysex8 (groupAt sysex8 w 0) (idAt sysex8 w 0)
-  pub fits : base < 4278255361
+  pub fits : base ≤ 4278255360
   pub inner : head ≡ innerHead sysex8 base
   pub free : head ≤ 4294967040
   pub ends : end ≡ wordsFor sysex8 n
-  pub end-is : end ≡ 4 * suc ((n - 1) / 13)
   pub whole : len ≡ 4 * packets
   pub reach : end ≤ len
   pub room : len ≤ length w
   pub small : length w ≤ 16384
 
 module _ {w : List ℕ} {len n : ℕ} (ok : Accepted w len n) where
-  pub bounds : (base head end packets : ℕ) → base ≡ baseOf (getD w 0 0) → head ≡ base + 3014656 → end ≡ wordsFor sysex8 n → packets ≡ len / 4
-      → getD w 0 0 < 2 ^ 32 → Bounds w len n base head end packets
-  bounds base head end packets is inner ends all small =
+  pub bounds : (base head end packets : ℕ) → base ≡ baseOf (getD w 0 0) → head ≡ innerHead sysex8 base → end ≡ wordsFor sysex8 n → packets ≡ len / 4
+      → Bounds w len n base head end packets
+  bounds base head end packets is inner ends all =
       let i = inside ok in
-      let fits : base < 4278255361 = omega arith in
+      let fits : base ≤ 4278255360 = omega arith in
       record {
-        shared = is ∙ base-is ok small;
+        shared = is ∙ base-is ok;
         fits = fits;
         inner = inner;
         free = omega arith;
         ends = ends;
-        end-is = ends ∙ words-number n;
         whole = omega (arith, i);
         reach = omega (arith, end-fits ok);
         room = i .0;
@@ -114,7 +105,7 @@ module _ {w : List ℕ} {len n : ℕ} (ok : Accepted w len n) where
 
   -- all packets are taken: what is flushed, both heads and zeros
   module _ {base head end packets : ℕ} (b : Bounds w len n base head end packets) {flow : Pending} {us : List ℕ} (f : Repacks w len head packets flow us) where
-    pub repack-end : (us′ : List ℕ) → Flushed us head flow (end / 4) us′ → zeroed (headed base n (headed base n us′ 0) (end - 4)) end len ≡ rewritten sysex8 w len (payloadOf sysex8 w len)
+    pub repack-end : (us′ : List ℕ) → Flushed us head flow (end / 4) us′ → finished base n us′ end len ≡ rewritten sysex8 w len (payloadOf sysex8 w len)
     unfolding rewritten
     repack-end us′ flushed =
         let bytes = payloadOf sysex8 w len in
@@ -122,4 +113,4 @@ module _ {w : List ℕ} {len n : ℕ} (ok : Accepted w len n) where
         let all : taken flow ≡ length bytes = rw packets-are at (f .all) in
         let e : end / 4 ≡ packetsFor sysex8 (length bytes) = omega (arith, b .ends, ap (packetsFor sysex8) (ok .sized)) in
         let poured : Poured sysex8 w bytes head (end / 4) us′ = flow-end (f .flows) all (end / 4) e us′ (flushed .some) (flushed .none) in
-        finished w bytes (groupAt sysex8 w 0) (idAt sysex8 w 0) base n end (ok .sized) (below-payload sysex8 w (len / 4)) refl (b .shared) (b .ends) (omega (arith, b .reach, b .room)) us′ (rw (b .inner) at poured) len
+        finished-is w bytes (groupAt sysex8 w 0) (idAt sysex8 w 0) base n end (ok .sized) (below-payload sysex8 w (len / 4)) refl (b .shared) (b .ends) (omega (arith, b .reach, b .room)) us′ (rw (b .inner) at poured) len

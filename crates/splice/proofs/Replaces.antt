@@ -2,7 +2,7 @@
 use mathlib.Core.Path.{_≡_, refl, sym, ap, _∙_}
 use mathlib.Core.Bool.{true, false}
 use mathlib.Core.List.{List}
-use Prim.Native.Nat.{ℕ, _+_, _-_, _/_, _^_, _<_}
+use Prim.Native.Nat.{ℕ, _/_, _^_, _≤_, _<_}
 use native.Mathlib.Omega.{arith}
 use lib.ListN.{length, getD}
 use Rattle.ump.specs.Word.{Below}
@@ -13,13 +13,13 @@ use Rattle.ump.specs.Splice.{rewritten}
 use Rattle.ump.specs.Edits.{editsOf, patchesOf, replaced}
 use Rattle.ump.proofs.Splicing.{below-payload}
 use Rattle.splice.specs.Accepted.{Filled}
-use Rattle.splice.specs.Header.{baseOf}
-use Rattle.splice.specs.Zeros.{zeroed}
+use Rattle.flow.specs.Heads.{innerHead}
+use Rattle.splice.specs.Header.{baseOf, leveled, finished}
 use Rattle.splice.specs.Merging.{packets, Listed, Lists, BeginsAll, EndsAll}
 use Rattle.splice.proofs.Lengths.{words-number}
 use Rattle.splice.proofs.Messages.{inside, end-fits, base-is}
-use Rattle.splice.proofs.Finished.{headed, finished}
-use Rattle.splice.proofs.Heading.{leveled, leveled-stands, leveled-stored, leveled-long}
+use Rattle.splice.proofs.Finished.{finished-is}
+use Rattle.splice.proofs.Heading.{leveled-stands, leveled-stored, leveled-long}
 use Rattle.splice.proofs.Turning.{below-merged}
 use Rattle.splice.proofs.Passing.{all-merged}
 
@@ -28,15 +28,20 @@ module _ {w us : List ℕ} {len size total filled : ℕ} {numbers bytes : List �
   abbrev source : List ℕ
   source = payloadOf sysex8 us filled
 
+  abbrev head : ℕ
+  head = innerHead sysex8 base
+
   abbrev level : List ℕ
-  level = leveled (f .passed) (f .full) small base shared
+  level = leveled head us filled
 
-  base-small : base < 4278255361
-  base-small = omega (arith, small 0)
+  long : length level ≡ length w
+  long = leveled-long head us filled ∙ f .long
 
-  lists : Lists level (base + 3014656) size total numbers bytes source
+  pub base-small : base ≤ 4278255360
+  base-small = omega arith
+
+  lists : Lists level head size total numbers bytes source
   lists =
-      let long : length level ≡ length w = leveled-long (f .passed) (f .full) small base shared ∙ f .long in
       record {
         sized = f .passed .sized;
         stands = leveled-stands (f .passed) (f .full) small base shared;
@@ -51,19 +56,18 @@ module _ {w us : List ℕ} {len size total filled : ℕ} {numbers bytes : List �
         plain = omega arith;
       }
 
-  pub replace-begins : BeginsAll level (base + 3014656) size total numbers bytes
+  pub replace-begins : BeginsAll (leveled (innerHead sysex8 base) us filled) (innerHead sysex8 base) size total numbers bytes
   replace-begins = record { source = source; lists = lists }
 
-  pub replace-ends : {vs : List ℕ} {end : ℕ} → Below 256 bytes → end ≡ wordsFor sysex8 total → EndsAll level (base + 3014656) size total numbers bytes vs
-      → zeroed (headed base total (headed base total vs 0) (end - 4)) end filled ≡ rewritten sysex8 w len (replaced (payloadOf sysex8 w len) (patchesOf (editsOf numbers) bytes))
+  pub replace-ends : {vs : List ℕ} {end : ℕ} → Below 256 bytes → end ≡ wordsFor sysex8 total → EndsAll (leveled (innerHead sysex8 base) us filled) (innerHead sysex8 base) size total numbers bytes vs
+      → finished base total vs end filled ≡ rewritten sysex8 w len (replaced (payloadOf sysex8 w len) (patchesOf (editsOf numbers) bytes))
   unfolding rewritten
   replace-ends {vs} {end} below ends done =
       let new = replaced source (patchesOf (editsOf numbers) bytes) in
-      let long : length level ≡ length w = leveled-long (f .passed) (f .full) small base shared ∙ f .long in
       let e : packets total ≡ end / 4 = omega (arith, words-number total) in
       let message = pack sysex8 (groupAt sysex8 us 0) (idAt sysex8 us 0) new in
       let few : Below 256 new = rw (← all-merged lists) (below-merged 256 false true 0 (editsOf numbers) source bytes (lists .below) below) in
-      finished level new (groupAt sysex8 us 0) (idAt sysex8 us 0) base total end (lists .result) few refl (shared ∙ base-is (f .passed) (small 0)) ends (omega (arith, l .room, long)) vs (rw e at (done source lists)) filled
+      finished-is level new (groupAt sysex8 us 0) (idAt sysex8 us 0) base total end (lists .result) few refl (shared ∙ base-is (f .passed)) ends (omega (arith, l .room, long)) vs (rw e at (done source lists)) filled
       ∙ leveled-stored (f .passed) (f .full) small base shared message
       ∙ f .again new
       ∙ ap (λ (p : List ℕ). rewritten sysex8 w len (replaced p (patchesOf (editsOf numbers) bytes))) (f .carries)

@@ -7,16 +7,17 @@ use native.Mathlib.Numerals.{add-one}
 use native.Mathlib.Omega.{arith}
 use lib.ListN.{length, getD, take, drop, length-drop}
 use lib.Seq.{getD-drop, take-at, drop-at}
-use Rattle.ump.specs.Packet.{sysex8, sizeAt, packet, payloadAt, joined, payload}
+use Rattle.ump.specs.Packet.{sysex8, countAt, sizeAt, packet, payloadAt, joined, payload}
 use Rattle.ump.specs.Check.{payloadOf}
 use Rattle.ump.proofs.Words.{below-take, map-mod}
+use Rattle.ump.proofs.Sizes.{size-small}
 use Rattle.ump.proofs.Bytes.{length-payloadAt}
 use Rattle.ump.proofs.Payload.{payload-more, payload-mono}
 use Rattle.ump.proofs.Joined.{joined-around}
 use Rattle.flow.specs.Digits.{val}
 use Rattle.splice.specs.Accepted.{Accepted}
 use Rattle.splice.specs.Thirteens.{body, frontOf}
-use Rattle.splice.proofs.Messages.{there, counts, size-is}
+use Rattle.splice.proofs.Messages.{there}
 use Rattle.splice.proofs.Bodies.{below-body, body-agree}
 use Rattle.splice.proofs.Parts.{front-part}
 
@@ -50,9 +51,6 @@ module _ {w : List ℕ} {len n : ℕ} (ok : Accepted w len n) (p : ℕ) (h : p <
   abbrev s : ℕ
   s = sizeAt sysex8 w p
 
-  pub size-most : s ≤ 13
-  size-most = omega (arith, size-is ok p h, counts ok p h)
-
   pub taken-next : m + s ≡ length (payload sysex8 w (p + 1))
   taken-next = rw add-one (sym (payload-more sysex8 w p (there ok p h)))
 
@@ -69,4 +67,4 @@ module _ {w : List ℕ} {len n : ℕ} (ok : Accepted w len n) (p : ℕ) (h : p <
   pub piece-number : (us : List ℕ) → ((k : ℕ) → 4 * p ≤ k → getD us k 0 ≡ getD w k 0)
       → frontOf (val 13 (body us p)) s ≡ val 13 (take s (drop m bytes))
   piece-number us same =
-      rw (body-agree us w p p (λ r l. same (4 * p + r) (omega arith)), front-part (body w p) s (below-body w p) size-most, piece-is)
+      rw (body-agree us w p p (λ r l. same (4 * p + r) (omega arith)), front-part (body w p) s (below-body w p) (size-small sysex8 (countAt sysex8 w p)), piece-is)

@@ -1,6 +1,6 @@
 // Numbers that packing and splice go by.
 ghost use mathlib.Core.Path.{_≡_};
-ghost use Prim.Native.Nat.{_-_, _/_, _%_, _<_, min, max};
+ghost use Prim.Native.Nat.{_-_, min, max};
 ghost use Rattle.ump.specs.Packet.{sysex8};
 ghost use Rattle.ump.specs.Packing.{wordsFor};
 
@@ -15,14 +15,6 @@ pub(crate) fn words_needed(size: usize) -> usize
         return size / 13 * 4;
     }
     4 * (size / 13 + 1)
-}
-
-// How many payload bytes the packet with this first word carries.
-pub(crate) fn carried_by(first: u32) -> usize
-    requires { ⌜ 0 < first / 65536 % 16 ⌝ }
-    ensures { λ r. ⌜ r ≡ first / 65536 % 16 - 1 ⌝ }
-{
-    (first / 0x1_0000 % 16) as usize - 1
 }
 
 // The smaller number.

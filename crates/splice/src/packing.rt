@@ -1,19 +1,21 @@
 // The fewest-packet form.
 ghost use mathlib.Core.Path.{_≡_};
-ghost use Prim.Native.Nat.{_+_, _-_, _*_, _/_, _%_, _^_, _≤_, _<_};
-ghost use lib.ListN.{length, getD};
-ghost use Rattle.ump.specs.Packet.{sysex8};
+ghost use Prim.Native.Nat.{_+_, _*_, _^_, _≤_, _<_};
+ghost use lib.ListN.{length};
+ghost use Rattle.ump.specs.Packet.{sysex8, sizeAt};
 ghost use Rattle.ump.specs.Packing.{wordsFor};
 ghost use Rattle.ump.specs.Check.{payloadOf};
 ghost use Rattle.ump.specs.Splice.{rewritten};
 ghost use Rattle.flow.specs.Digits.{val};
 ghost use Rattle.splice.specs.Accepted.{Accepted};
+ghost use Rattle.splice.specs.Header.{finished};
 ghost use Rattle.splice.specs.Zeros.{zeroed};
 ghost use Rattle.splice.specs.Thirteens.{body, frontOf};
 ghost use Rattle.splice.specs.Pieces.{Reaches, Appends, Flushed};
 use super::header::base_of;
+use super::header::head;
+use super::header::inner_head;
 use super::header::put_head;
-use super::numbers::carried_by;
 use super::numbers::words_needed;
 use super::pending::Pending;
 use super::pending::append;
@@ -48,13 +50,12 @@ pub(crate) fn flush(words: &mut [u32], head: u32, pending: Pending, packets: usi
 // The payload bytes of packet `packet`, after what is pending.
 fn take_packet(words: &mut [u32], head: u32, pending: Pending, packet: usize) -> Pending
     requires { ⌜ (pending .packet ≤ packet) × ((4 * packet + 4 ≤ length (now words)) × Reaches (length (now words)) head pending 0) ⌝ }
-    requires { ⌜ (0 < getD (now words) (4 * packet) 0 / 65536 % 16) × (getD (now words) (4 * packet) 0 / 65536 % 16 ≤ 14) ⌝ }
     ensures { λ r. ⌜ Appends (now (words .entry)) (now (words .exit)) head pending
-        (frontOf (val 13 (body (now (words .entry)) packet)) (getD (now (words .entry)) (4 * packet) 0 / 65536 % 16 - 1))
-        (getD (now (words .entry)) (4 * packet) 0 / 65536 % 16 - 1) r ⌝ }
+        (frontOf (val 13 (body (now (words .entry)) packet)) (sizeAt sysex8 (now (words .entry)) packet))
+        (sizeAt sysex8 (now (words .entry)) packet) r ⌝ }
 {
     let at = 4 * packet;
-    let some = carried_by(words[at]);
+    let some = layout::sysex8_size(layout::count_of(words[at]));
     if some == 0 {
         return pending;
     }
@@ -65,6 +66,18 @@ fn take_packet(words: &mut [u32], head: u32, pending: Pending, packet: usize) ->
     append(words, head, pending, front(bytes, some), some)
 }
 
+// Makes the first words of the first and the last packet of a message of `size` bytes in `end` words anew, each with its byte, and zeroes
+// the words behind it up to the old end.
+pub(crate) fn finish(words: &mut [u32], base: u32, size: usize, end: usize, old: usize)
+    requires { ⌜ (base ≤ 4278255360) × ((end ≡ wordsFor sysex8 size) × ((end ≤ length (now words)) × (old ≤ length (now words)))) ⌝ }
+    ensures { λ _. ⌜ now (words .exit) ≡ finished base size (now (words .entry)) end old ⌝ }
+{
+    let packets = end / 4;
+    put_head(words, head(base, size, packets, 0), 0);
+    put_head(words, head(base, size, packets, packets - 1), end - 4);
+    zero(words, end, old);
+}
+
 // Rewrites a valid message of `size` payload bytes in fewest-packet form, packet by packet, and answers its new length.
 pub(crate) fn pack(words: &mut [u32], length: usize, size: usize) -> usize
     requires { ⌜ Accepted (now words) length size ⌝ }
@@ -72,7 +85,7 @@ pub(crate) fn pack(words: &mut [u32], length: usize, size: usize) -> usize
         × (now (words .exit) ≡ rewritten sysex8 (now (words .entry)) length (payloadOf sysex8 (now (words .entry)) length)) ⌝ }
 {
     let base = base_of(words[0]);
-    let head = base + 0x2E_0000;
+    let head = inner_head(base);
     let end = words_needed(size);
     let packets = length / 4;
     let mut flow = nothing(0);
@@ -82,8 +95,6 @@ pub(crate) fn pack(words: &mut [u32], length: usize, size: usize) -> usize
         packet += 1;
     }
     flush(words, head, flow, end / 4);
-    put_head(words, base, size, end, 0);
-    put_head(words, base, size, end, end - 4);
-    zero(words, end, length);
+    finish(words, base, size, end, length);
     end
 }

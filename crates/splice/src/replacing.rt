@@ -10,21 +10,20 @@ ghost use Rattle.ump.specs.Edits.{editsOf, patchesOf, replaced};
 ghost use Rattle.splice.specs.Accepted.{Accepted, Full, Filled};
 ghost use Rattle.splice.specs.Merging.{Listed, Within, lessAfter, Summed, BeginsAll, EndsAll};
 use super::header::base_of;
-use super::header::put_head;
-use super::header::put_inner;
+use super::header::inner_head;
+use super::header::level;
 use super::merging::merge;
-use super::numbers::carried_by;
 use super::numbers::over;
 use super::numbers::words_needed;
+use super::packing::finish;
 use super::packing::pack;
-use super::packing::zero;
 
 // Whether every packet but the last is full: only then do the others carry as much as they can.
 pub(crate) fn is_full(words: &[u32], length: usize, size: usize) -> bool
     requires { ⌜ Accepted (now words) length size ⌝ }
     ensures { λ r. ⌜ (r ≡ true → Full (now (words .entry)) length) ⌝ }
 {
-    let last = carried_by(words[length - 4]);
+    let last = layout::sysex8_size(layout::count_of(words[length - 4]));
     size == 13 * (length / 4 - 1) + last
 }
 
@@ -116,11 +115,8 @@ pub fn replace_all(
     let end = words_needed(total);
     let filled = fill(words, length, size);
     let base = base_of(words[0]);
-    let head = base + 0x2E_0000;
-    put_inner(words, head, 0);
-    put_inner(words, head, filled - 4);
+    let head = inner_head(base);
+    level(words, head, filled);
     merge_all(words, head, size, total, numbers, bytes);
-    put_head(words, base, total, end, 0);
-    put_head(words, base, total, end, end - 4);
-    zero(words, end, filled);
+    finish(words, base, total, end, filled);
 }

@@ -21,6 +21,13 @@ fn wide(word: u32) -> u64
     word as u64
 }
 
+// A byte as a number of 64 bits.
+fn wide_byte(byte: u8) -> u64
+    ensures { λ r. ⌜ (r ≡ byte) × (r < 256) ⌝ }
+{
+    byte as u64
+}
+
 // The payload octets of packet `packet`.
 pub(crate) fn load(words: &[u32], packet: usize) -> Thirteen
     requires { ⌜ (packet < 65536) × (4 * packet + 4 ≤ length (now words)) ⌝ }
@@ -28,7 +35,7 @@ pub(crate) fn load(words: &[u32], packet: usize) -> Thirteen
 {
     let at = 4 * packet;
     Thirteen {
-        high: wide(words[at] % 0x100) * 0x1_0000_0000 + wide(words[at + 1]),
+        high: wide_byte(layout::octet_of(words[at], 3)) * 0x1_0000_0000 + wide(words[at + 1]),
         low: wide(words[at + 2]) * 0x1_0000_0000 + wide(words[at + 3]),
     }
 }
@@ -156,27 +163,13 @@ fn few_of(bytes: &[u8], at: usize, first: Thirteen, done: usize, some: usize) ->
     t
 }
 
-// A byte as a number of 64 bits.
-fn wide_byte(byte: u8) -> u64
-    ensures { λ r. ⌜ (r ≡ byte) × (r < 256) ⌝ }
-{
-    byte as u64
-}
-
-// The word of four octets.
-fn word_of(first: u8, second: u8, third: u8, fourth: u8) -> u32
-    ensures { λ r. ⌜ r ≡ word first second third fourth ⌝ }
-{
-    first as u32 * 0x100_0000 + second as u32 * 0x1_0000 + third as u32 * 0x100 + fourth as u32
-}
-
 // Bytes `index` to `index + 3` of lent ones, as a word.
 fn four_of(bytes: &[u8], index: usize) -> u32
     requires { ⌜ index + 3 < length (now bytes) ⌝ }
     ensures { λ r. ⌜ r ≡ word (getD (now (bytes .entry)) index 0) (getD (now (bytes .entry)) (index + 1) 0)
         (getD (now (bytes .entry)) (index + 2) 0) (getD (now (bytes .entry)) (index + 3) 0) ⌝ }
 {
-    word_of(
+    layout::word_of(
         bytes[index],
         bytes[index + 1],
         bytes[index + 2],

@@ -27,7 +27,7 @@ use Rattle.answers.specs.declared.ReadAnswer.{ReadAnswer}
 use Rattle.answers.specs.declared.DumpAnswer.{DumpAnswer}
 
 -- a call that writes: the struct of its answer, and what is lent as it is after the call
-abbrev pub leaving : {A B : Type 0} → (A → B) → A × List ℕ → B × List ℕ
+abbrev pub leaving : {A B Lent : Type 0} → (A → B) → A × Lent → B × Lent
 leaving struct (answer, after) = (struct answer, after)
 
 abbrev pub numberAnswer : Answer ℕ → NumberAnswer

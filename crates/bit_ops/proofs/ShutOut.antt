@@ -4,7 +4,8 @@ use mathlib.Core.Bool.{true, not}
 use Prim.Native.Nat.{ℕ}
 use lib.Dec.{T, eqb}
 use Rattle.refusal.specs.Answer.{Answer}
-use Rattle.refusal.proofs.Tight.{Shuts, differ, told}
+use Rattle.refusal.specs.Tight.{Shuts}
+use Rattle.refusal.proofs.Tight.{differ, told}
 use Rattle.refusal.specs.declared.Fault.{Fault}
 use Rattle.refusal.specs.declared.Refusal.the-variants.{Range, Field}
 use Rattle.refusal.specs.declared.ByteRead.the-variants as byte-read

@@ -5,14 +5,14 @@ use mathlib.Core.List.{List}
 use Prim.Native.Nat.{ℕ, zero, suc}
 use lib.Dec.{ltb}
 use lib.ListN.{length}
-use Rattle.refusal.specs.Answer.{Answer, gives, refused}
+use Rattle.refusal.specs.Answer.{Answer, gives, refused, mapAnswer}
 use Rattle.refusal.specs.declared.Refusal.the-variants.{Long, Range, Room, Missing, Ring}
-use Rattle.refusal.proofs.Laws.{Named, accepted, named, by-guard, by-both}
+use Rattle.refusal.proofs.Laws.{Named, accepted, named, by-guard, by-both, writes-named}
+use Rattle.ump.specs.Limits.{mostWords}
 use Rattle.ump.specs.Edits.{Patch}
-use Rattle.ump.specs.Worker.{mapAnswer}
 use Rattle.store.specs.Store.{Dump, whole, delta, dumpsOf, held}
 use Rattle.store.proofs.Checks.{sound-named}
-use Rattle.chain.specs.Restore.{Payload, exceeds, roomed, outside, rebuilt, restoredBy, restored, answered, restore, unlimited, described, describe}
+use Rattle.chain.specs.Restore.{Payload, exceeds, roomed, outside, rebuilt, restoredBy, restored, restore, unlimited, described, describe}
 
 roomed-named : (tooLong : ℕ → Bool) (p : Payload) → Named (roomed tooLong p)
 unfolding roomed
@@ -33,10 +33,6 @@ restored-named tooLong ds (suc left) n = go (λ b. restored-named tooLong ds lef
     go more (some (whole number group id bytes)) = roomed-named tooLong _
     go more (some (delta number base patches)) = rebuilt-named tooLong patches _ (more base)
 
-answered-named : (words : List ℕ) (answer : Answer Payload) → Named answer → Named (answered words answer .0)
-answered-named words (gives p) h = accepted
-answered-named words (refused number place) (named r) = named r
-
 mapped-named : {A B : Type 0} (f : A → B) (answer : Answer A) → Named answer → Named (mapAnswer f answer)
 mapped-named f (gives a) h = accepted
 mapped-named f (refused number place) (named r) = named r
@@ -45,8 +41,8 @@ module _ (store : List ℕ) (n : ℕ) where
   pub restore-named : (words : List ℕ) → Named (restore store n words .0)
   unfolding restore
   restore-named words =
-      answered-named words _
-      (by-both _ _ (by-guard (ltb 16384 (length words)) Long 0)
+      writes-named _ words _ _
+      (by-both _ _ (by-guard (ltb mostWords (length words)) Long 0)
       (by-both _ _ (sound-named store) (restored-named (exceeds (length words)) (dumpsOf store) (suc (length (dumpsOf store))) n)))
 
   pub describe-named : Named (describe store n)

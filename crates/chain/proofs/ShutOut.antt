@@ -6,7 +6,8 @@ use Prim.Native.Nat.{ℕ, _+_, _*_}
 use Rattle.refusal.specs.Answer.{Answer}
 use Rattle.refusal.specs.declared.Refusal.{Refusal}
 use Rattle.refusal.specs.declared.Refusal.the-variants.{Room, Missing}
-use Rattle.refusal.proofs.Tight.{ShutOut, differ, told}
+use Rattle.refusal.specs.Tight.{ShutOut}
+use Rattle.refusal.proofs.Tight.{differ, told}
 use Rattle.ump.specs.Packet.{joined}
 use Rattle.ump.specs.Packing.{packetsFor}
 use Rattle.ump.specs.Edits.{replaced}

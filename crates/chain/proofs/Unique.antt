@@ -4,7 +4,8 @@ use mathlib.Core.Option.{Option, none, some}
 use Prim.Native.Nat.{ℕ}
 use Rattle.refusal.specs.Answer.{Answer, gives, refused}
 use Rattle.refusal.proofs.Laws.{faultBack, fault-back, name-of-number, Named, named}
-use Rattle.refusal.proofs.Tight.{FixesResult, once}
+use Rattle.refusal.specs.Tight.{FixesResult}
+use Rattle.refusal.proofs.Tight.{once}
 use Rattle.refusal.specs.Number.{numberOf}
 use Rattle.refusal.specs.declared.Refusal.{Refusal}
 use Rattle.chain.specs.Restore as paper

@@ -12,7 +12,8 @@ use Rattle.refusal.specs.Answer.{gives}
 use Rattle.refusal.proofs.Laws.{never-refused}
 use Rattle.ump.specs.Packet.{joined}
 use Rattle.ump.specs.Edits.{Patch, patchAt, endBefore, Apart, replaced, total, allBytes}
-use Rattle.ump.proofs.Replace.{gap, length-gap}
+use Rattle.ump.specs.Partly.{gap}
+use Rattle.ump.proofs.Replace.{length-gap}
 use Rattle.store.specs.Store.{recordsOf, atStart, wellFormed, Dump, delta, dumpNumber, dumpsOf, held}
 use Rattle.chain.specs.Walk.{baseOf, comes, InRing}
 use Rattle.chain.specs.Restore.{Payload, restored, unlimited}

@@ -9,6 +9,7 @@ use lib.ListN.{length}
 use Rattle.refusal.specs.Answer.{Answer, gives, refused, pass}
 use Rattle.ump.specs.Packet.{sysex8}
 use Rattle.ump.specs.Packing.{wordsFor}
+use Rattle.ump.specs.Limits.{mostWords}
 use Rattle.ump.specs.Edits.{Patch}
 use Rattle.store.specs.Store.{recordsOf, atStart, wellFormed, Dump, delta, dumpsOf, sound, held}
 use Rattle.chain.specs.Walk.{baseOf, comes, InRing, IsMissing, Rests}
@@ -74,17 +75,17 @@ pub record Chained (Restores : Restorer) (Describes : Describer) : Type 0 where
       → (InRing dumps n → IsMissing dumps n → ⊥) × (InRing dumps n → Rests dumps n → ⊥) × (IsMissing dumps n → Rests dumps n → ⊥)
   -- In a sound store, a dump is refused as a ring exactly if following bases from it comes back to a number already passed,
   pub ring-exactly : {store : List ℕ} {n : ℕ} {words : List ℕ} {answer : Answer ℕ} {left : List ℕ} → Restores store n words answer left
-      → sound store ≡ pass → length words ≤ 16384 → (answer ≡ refused 25 0) ↔ InRing (dumpsOf store) n
+      → sound store ≡ pass → length words ≤ mostWords → (answer ≡ refused 25 0) ↔ InRing (dumpsOf store) n
   -- and Missing is given exactly if the walk comes to a number not held.
   pub missing-exactly : {store : List ℕ} {n : ℕ} {words : List ℕ} {answer : Answer ℕ} {left : List ℕ} → Restores store n words answer left
-      → sound store ≡ pass → length words ≤ 16384 → (answer ≡ refused 24 0) ↔ IsMissing (dumpsOf store) n
+      → sound store ≡ pass → length words ≤ mostWords → (answer ≡ refused 24 0) ↔ IsMissing (dumpsOf store) n
   -- What is restored rests on a whole dump.
   pub accepted-rests : {store : List ℕ} {n : ℕ} {words : List ℕ} {count : ℕ} {left : List ℕ} → Restores store n words (gives count) left
       → Rests (dumpsOf store) n
   -- A dump made a delta against its own descendant, and every dump whose walk comes to it, is refused as a ring; the words stay.
   pub re-encoded : {store : List ℕ} {n : ℕ} → sound store ≡ pass → Reencoded (dumpsOf store) n
       → (m steps : ℕ) → comes (dumpsOf store) steps m ≡ some n
-      → {words : List ℕ} {answer : Answer ℕ} {left : List ℕ} → length words ≤ 16384 → Restores store m words answer left
+      → {words : List ℕ} {answer : Answer ℕ} {left : List ℕ} → length words ≤ mostWords → Restores store m words answer left
       → (answer ≡ refused 25 0) × (left ≡ words)
   -- A delta without edits is restored as its base is: the same answer, whatever it is, and the same words left.
   pub bare : {store : List ℕ} {n number base : ℕ} → held (dumpsOf store) n ≡ some (delta number base [])
@@ -101,9 +102,9 @@ pub record Chained (Restores : Restorer) (Describes : Describer) : Type 0 where
   pub described-foot : {store : List ℕ} {n : ℕ} {d : Description} → Describes store n (gives d) → Foot (dumpsOf store) n d
   -- A dump that is described is restored exactly if as many words are lent as its description says, else it has no Room.
   pub described-words : {store : List ℕ} {n : ℕ} {d : Description} → Describes store n (gives d)
-      → {words : List ℕ} {answer : Answer ℕ} {left : List ℕ} → length words ≤ 16384 → Restores store n words answer left
+      → {words : List ℕ} {answer : Answer ℕ} {left : List ℕ} → length words ≤ mostWords → Restores store n words answer left
       → (d .words ≤ length words → answer ≡ gives (wordsFor sysex8 (d .size))) × (length words < d .words → answer ≡ refused 14 0)
   -- A dump whose description is refused is not restored: the same refusal, or Room where that was Range.
   pub described-refused : {store : List ℕ} {n number place : ℕ} → Describes store n (refused number place)
-      → {words : List ℕ} {answer : Answer ℕ} {left : List ℕ} → length words ≤ 16384 → Restores store n words answer left
+      → {words : List ℕ} {answer : Answer ℕ} {left : List ℕ} → length words ≤ mostWords → Restores store n words answer left
       → (answer ≡ refused number place) ⊎ ((number ≡ 13) × (answer ≡ refused 14 0))

@@ -6,11 +6,11 @@ use mathlib.Core.List.{List, [], _∷_, _++_}
 use Prim.Native.Nat.{ℕ, zero, suc, _-_, max}
 use lib.Dec.{ltb}
 use lib.ListN.{length, replicate}
-use Rattle.refusal.specs.Answer.{Answer, gives, refused, _▷_, guard}
+use Rattle.refusal.specs.Answer.{Answer, gives, refused, _▷_, guard, mapAnswer, writesAs}
 use Rattle.ump.specs.Packet.{sysex8}
 use Rattle.ump.specs.Packing.{pack, wordsFor}
+use Rattle.ump.specs.Limits.{mostWords}
 use Rattle.ump.specs.Edits.{Patch, replaced}
-use Rattle.ump.specs.Worker.{mapAnswer}
 use Rattle.store.specs.Store.{Dump, whole, delta, dumpsOf, sound, held}
 use Rattle.chain.specs.Walk.{baseOf, fromBase}
 
@@ -61,14 +61,13 @@ laidOut lent payload =
 
 -- the answer, and the words lent as they are after the call
 abbrev pub answered : List ℕ → Answer Payload → Answer ℕ × List ℕ
-answered words (refused number place) = (refused number place, words)
-answered words (gives payload) = (gives (wordsFor sysex8 (length (payload .bytes))), laidOut (length words) payload)
+answered words answer = writesAs answer words (λ payload. wordsFor sysex8 (length (payload .bytes))) (λ payload. laidOut (length words) payload)
 
 -- Long, Format, Twice, Full, Missing, Ring, Range, Room
 unfoldable pub restore : List ℕ → ℕ → List ℕ → Answer ℕ × List ℕ
 restore store number words =
     answered words
-    (guard (ltb 16384 (length words)) 1 0
+    (guard (ltb mostWords (length words)) 1 0
     ▷ sound store
     ▷ restored (exceeds (length words)) (dumpsOf store) (suc (length (dumpsOf store))) number)
 

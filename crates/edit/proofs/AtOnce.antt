@@ -7,17 +7,16 @@ use Prim.Native.Nat.{ℕ, zero, suc, _+_, _*_, _%_, _/_, _≤_, _<_}
 use native.Mathlib.Nat.{le-trans}
 use native.Mathlib.Omega.{arith}
 use lib.Dec.{ltb}
-use lib.IntN.{pos, _-ℤ_}
 use lib.ListN.{length, getD, drop, length-drop}
 use lib.Seq.{length-take-le}
 use borrow.Author.Tests.{ltb-false, le-ltb, eq-eqb}
-use Rattle.refusal.specs.Answer.{Answer, gives, refused, Verdict, pass, _▷_, guard, writes}
-use Rattle.refusal.proofs.Laws.{never-refused}
+use Rattle.refusal.specs.Answer.{gives, refused, pass, _▷_, guard}
+use Rattle.refusal.proofs.Laws.{writes-given, writes-refused}
 use Rattle.ump.specs.Word.{octets, Below}
 use Rattle.ump.specs.Packet.{Shape, groupAt, idAt}
 use Rattle.ump.specs.Packing.{wordsFor}
 use Rattle.ump.specs.Check.{check, payloadOf}
-use Rattle.ump.specs.Splice.{Spliced, rewritten}
+use Rattle.ump.specs.Splice.{growthBy, Spliced, rewritten}
 use Rattle.ump.specs.Edits.{Edit, Patch, patchAt, editsFor, replaced, allBytes, perEdit, editsOf, patchesOf, lengths, someBad, badList, someOverlap, allChecks, spliceAll, total}
 use Rattle.ump.specs.Holds.{Fewest}
 use Rattle.ump.specs.Worker.{Fits}
@@ -28,8 +27,9 @@ use Rattle.ump.proofs.Sizes.{words-mono}
 use Rattle.ump.proofs.Checks.{pass-both}
 use Rattle.ump.proofs.Splicing.{below-payload}
 use Rattle.ump.proofs.Counting.{total-front}
-use Rattle.ump.proofs.Done.{writes-given, guard-passed}
-use Rattle.ump.proofs.Demand.{Dense, fits-small, same-message, rewritten-is-fewest}
+use Rattle.ump.proofs.Done.{guard-passed}
+use Rattle.ump.specs.Limits.{mostBytes, Dense}
+use Rattle.ump.proofs.Demand.{fits-small, same-message, rewritten-is-fewest}
 use Rattle.ump.proofs.Origins.{octet-front, below-replaced, rewritten-traced}
 use Rattle.ump.proofs.Asking.{asked-refused, asked-lent, Given, asked-given}
 use Rattle.splice.proofs.Lists.{Ordered, ordered, widths-inside, length-replaced}
@@ -172,16 +172,11 @@ module _ (s : Shape) (words : List ℕ) (len : ℕ) (numbers bytes : List ℕ) (
 
 -- ---- where they are refused
 
-writes-refused : {A : Type 0} (v : Verdict) (before written : List ℕ) (value : A) {number place : ℕ} {left : List ℕ}
-    → writes v before value written ≡ (refused number place, left) → v ≡ refused number place
-writes-refused {A} (gives u) before written value e = never-refused (sym (ap (λ (o : Answer A × List ℕ). o .0) e))
-writes-refused {A} (refused n p) before written value e = cc (ap (λ (o : Answer A × List ℕ). o .0) e)
-
 -- the question is refused as they are
 pub refused-alike : (s : Shape) (words : List ℕ) (len : ℕ) (numbers bytes : List ℕ) {number place : ℕ} {left : List ℕ}
     → spliceAll s words len numbers bytes ≡ (refused number place, left) → (q : ℕ) → origin s words len numbers bytes q ≡ refused number place
 unfolding spliceAll
-refused-alike s words len numbers bytes e q = sym (asked-refused s words len numbers bytes q (writes-refused (allChecks s words len numbers bytes) words _ _ e))
+refused-alike s words len numbers bytes e q = sym (asked-refused s words len numbers bytes q (writes-refused (allChecks s words len numbers bytes) words _ _ e .0))
 
 -- ---- they are not refused where they can be done one after the other
 
@@ -189,14 +184,14 @@ overlap-free : (n end : ℕ) (edits : List Edit) → Ordered n end edits → som
 overlap-free n end [] o = refl
 overlap-free n end (edit ∷ edits) o = rw (le-ltb (edit .from) end (o .0)) (overlap-free n (edit .to) edits (o .1 .1))
 
-none-bad : (n end : ℕ) (edits : List Edit) → Ordered n end edits → n ≤ 53248 → lengths edits ≤ 53248 → someBad n edits ≡ false
+none-bad : (n end : ℕ) (edits : List Edit) → Ordered n end edits → n ≤ mostBytes → lengths edits ≤ mostBytes → someBad n edits ≡ false
 none-bad n end [] o h l = refl
 none-bad n end (edit ∷ edits) o h l =
     let inside = widths-inside n (edit .to) edits (o .1 .1) in
     rw (
       le-ltb (edit .to) (edit .from) (o .1 .0),
-      le-ltb 53248 (edit .to) (omega arith),
-      le-ltb 53248 (edit .length) (omega arith),
+      le-ltb mostBytes (edit .to) (omega arith),
+      le-ltb mostBytes (edit .length) (omega arith),
       le-ltb n (edit .to) (omega arith),
     )
     (none-bad n (edit .to) edits (o .1 .1) h (omega arith))
@@ -223,7 +218,7 @@ module _ {s : Shape} (dense : Dense s) (words : List ℕ) (len : ℕ) (numbers b
       ≡ (
         gives (record {
           length = wordsFor s (length (replaced (payloadOf s words len) (patchesOf (editsOf numbers) bytes)));
-          growth = pos (length (replaced (payloadOf s words len) (patchesOf (editsOf numbers) bytes))) -ℤ pos (length (payloadOf s words len));
+          growth = growthBy (length (replaced (payloadOf s words len) (patchesOf (editsOf numbers) bytes))) (length (payloadOf s words len));
         }),
         rewritten s words len (replaced (payloadOf s words len) (patchesOf (editsOf numbers) bytes)),
       )

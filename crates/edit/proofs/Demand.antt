@@ -5,15 +5,17 @@ use mathlib.Core.List.{List, [], _∷_}
 use Prim.Native.Nat.{ℕ}
 use lib.Dec.{lit<}
 use denote.Ref.{RefT}
-use Rattle.refusal.specs.Answer.{Answer, gives, refused}
+use Rattle.refusal.specs.Answer.{Answer, gives, refused, mapAnswer}
 use Rattle.refusal.proofs.Laws.{never-refused}
 use Rattle.ump.specs.Packet.{sysex8}
 use Rattle.ump.specs.Edits.{Edit, Range, moveEdit}
 use Rattle.ump.specs.Origin.{Origin, headerOctet, carried, dumpByte, editByte, filler, zeroed, untouched}
-use Rattle.ump.specs.Worker.{mapAnswer, over, Finishes, bytesOf, start}
+use Rattle.ump.specs.Worker.{withRange, Finishes, bytesOf, start}
 use Rattle.ump.specs.Demand.{Audited}
 use Rattle.ump.specs.Samples.{message5, patches8}
-use Rattle.ump.proofs.Demand3.{dense8, PlainAnswers}
+use Rattle.ump.specs.Meets.{PlainAnswers}
+use Rattle.ump.specs.Orders.{BehindDiffers}
+use Rattle.ump.proofs.Limits.{dense8}
 use Rattle.ump.proofs.NotEmpty.{fits8}
 use Rattle.ump.proofs.Orders as orders
 use Rattle.splice.specs.declared.sysex8.Repacked.the-variants as repacked
@@ -47,7 +49,7 @@ answers =
     }
   where
     can : (done pending : Edit) (done-first : Bool) (answer : Answer Range) {edit : Edit} → moveEdit done pending done-first ≡ answer
-        → mapAnswer (over pending) answer ≡ gives edit → Moves done pending done-first (gives edit)
+        → mapAnswer (withRange pending) answer ≡ gives edit → Moves done pending done-first (gives edit)
     can done pending done-first (gives range) e f =
         record {
           lifetimes = tt;
@@ -76,7 +78,7 @@ promised : Promised sysex8 family
 promised =
     record {
       splices = λ b s. let g = s .given in rw (g .0, g .1, g .2, g .3, g .4, s .left, s .answer-is) at (s .promise);
-      moves = λ {pending = pending} m. sym (m .answer-is) ∙ ap (mapAnswer (over pending)) (rw (m .given) at (m .promise));
+      moves = λ {pending = pending} m. sym (m .answer-is) ∙ ap (mapAnswer (withRange pending)) (rw (m .given) at (m .promise));
       repacks = λ r. let g = r .given in rw (g .0, g .1, r .left, r .answer-is) at (r .promise);
       at-once = λ b a. let g = a .given in rw (g .0, g .1, g .2, g .3, a .left, a .answer-is) at (a .promise);
       asks = λ b a. let g = a .given in sym (a .answer-is) ∙ (rw (g .0, g .1, g .2, g .3, g .4) at (a .promise));
@@ -126,5 +128,5 @@ pub finishes-down : Finishes (family .calls) (bytesOf patches8) (start message5 
 finishes-down = audited .demand3 fits8 .finishes (1 ∷ 0 ∷ []) (lit< tt, tt, (lit< tt, tt, tt))
 
 -- Two orders of the same edits leave other words behind the same message.
-pub behind-differs : orders.BehindDiffers (family .calls)
+pub behind-differs : BehindDiffers (family .calls)
 behind-differs = orders.behind-differs answers

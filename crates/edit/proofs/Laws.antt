@@ -9,20 +9,21 @@ use mir.Facts.{toZ-pos, toZ-ofZ}
 use mir.Val.{SFits, toZ, ofZ}
 use borrow.Author.Tests.{le-ltb, lt-ltb}
 use Rattle.refusal.specs.Answer.{gives, refused}
+use Rattle.ump.specs.Limits.{mostBytes}
 use Rattle.ump.specs.Edits.{Edit, growth, badEdit, movedPast, moveEdit}
 use Rattle.ump.proofs.First.{Side, under, over, side}
-use Rattle.ump.proofs.Signed.{mag-sub, growth-is, moved-past-is, moved-by-growth}
+use Rattle.ump.proofs.Signed.{mag-sub, moved-past-is, moved-by-growth}
 use Rattle.edit.specs.Growth.{growthOf, Sound}
 
 -- ---- bad or sound
 
 pub sound-has : (e : Edit) → badEdit e ≡ false → Sound e
-sound-has e h = go (side (e .to) (e .from)) (side 53248 (e .to)) (side 53248 (e .length))
+sound-has e h = go (side (e .to) (e .from)) (side mostBytes (e .to)) (side mostBytes (e .length))
   where
     no : badEdit e ≡ true → Sound e
     no k = let z : _≡_ {A = ℕ} 0 1 = cc in absurd (omega arith)
 
-    go : Side (e .to) (e .from) → Side 53248 (e .to) → Side 53248 (e .length) → Sound e
+    go : Side (e .to) (e .from) → Side mostBytes (e .to) → Side mostBytes (e .length) → Sound e
     go (under a p) y z = no (rw p)
     go (over a p) (under b q) z = no (rw (p, q))
     go (over a p) (over b q) (under c r) = no (rw (p, q, r))
@@ -40,32 +41,30 @@ module _ (e : Edit) (s : Sound e) where
   difference =
       let a : e .length < 2 ^ 63 = omega (arith, s .size) in
       let b : e .to - e .from < 2 ^ 63 = omega (arith, s .end) in
-      rw (toZ-pos w64 a, toZ-pos w64 b) (sym (growth-is (e .from) (e .to) (e .length) (s .forward)))
+      rw (toZ-pos w64 a, toZ-pos w64 b)
 
   pub growth-fits : SFits w64 (growth e)
-  growth-fits =
-      rw (growth-is (e .from) (e .to) (e .length) (s .forward))
-      (record { sfits = mag-sub (e .length) (e .to - e .from) (2 ^ 63) (omega (arith, s .size)) (omega (arith, s .end)) })
+  growth-fits = record { sfits = mag-sub (e .length) (e .to - e .from) (2 ^ 63) (omega (arith, s .size)) (omega (arith, s .end)) }
 
   -- the growth as an answer holds it
   pub growth-held : {g : ℤ} → g ≡ growth e → toZ w64 (ofZ w64 g) ≡ growth e
   growth-held q = rw q (toZ-ofZ growth-fits)
 
   -- a place behind it moves to one that is far below the width
-  pub moved-small : (x : ℕ) → e .to ≤ x → x ≤ 53248 → movedPast e x < 2 ^ 63
-  moved-small x h k = rw (moved-past-is e x (s .forward) (omega arith)) (omega (arith, s .size))
+  pub moved-small : (x : ℕ) → e .to ≤ x → x ≤ mostBytes → movedPast e x < 2 ^ 63
+  moved-small x h k = rw (moved-past-is e x (omega arith)) (omega (arith, s .size))
 
   -- a place behind it, cast, and its growth added
-  pub sum-is : (x : ℕ) {g : ℤ} → g ≡ growth e → e .to ≤ x → x ≤ 53248 → toZ w64 x +ℤ toZ w64 (ofZ w64 g) ≡ pos (movedPast e x)
+  pub sum-is : (x : ℕ) {g : ℤ} → g ≡ growth e → e .to ≤ x → x ≤ mostBytes → toZ w64 x +ℤ toZ w64 (ofZ w64 g) ≡ pos (movedPast e x)
   sum-is x q h k =
       let a : x < 2 ^ 63 = omega arith in
-      rw (growth-held q, toZ-pos w64 a) (sym (moved-by-growth e x (s .forward) (omega arith)))
+      rw (growth-held q, toZ-pos w64 a) (sym (moved-by-growth e x (omega arith)))
 
-  pub sum-fits : (x : ℕ) {g : ℤ} → g ≡ growth e → e .to ≤ x → x ≤ 53248 → SFits w64 (toZ w64 x +ℤ toZ w64 (ofZ w64 g))
+  pub sum-fits : (x : ℕ) {g : ℤ} → g ≡ growth e → e .to ≤ x → x ≤ mostBytes → SFits w64 (toZ w64 x +ℤ toZ w64 (ofZ w64 g))
   sum-fits x q h k = rw (sum-is x q h k) (record { sfits = moved-small x h k })
 
   -- and back: nothing is lost
-  pub sum-back : (x : ℕ) {g : ℤ} → g ≡ growth e → e .to ≤ x → x ≤ 53248
+  pub sum-back : (x : ℕ) {g : ℤ} → g ≡ growth e → e .to ≤ x → x ≤ mostBytes
       → toZ w64 (ofZ w64 (toZ w64 x +ℤ toZ w64 (ofZ w64 g))) ≡ pos (movedPast e x)
   sum-back x q h k = toZ-ofZ (sum-fits x q h k) ∙ sum-is x q h k
 

@@ -11,15 +11,16 @@ use denote.Triple.Clauses.{AtExit}
 use borrow.Fn.Kinds.{Dens, resT, endedOf}
 use Rattle.refusal.specs.Answer.{Answer, gives}
 use Rattle.refusal.proofs.Laws.{never-both, never-refused}
-use Rattle.refusal.proofs.Tight as tight
-use Rattle.refusal.proofs.Tight.{Shuts, differ, told}
+use Rattle.refusal.specs.Tight as tight
+use Rattle.refusal.specs.Tight.{Shuts}
+use Rattle.refusal.proofs.Tight.{differ, told}
 use Rattle.refusal.specs.declared.Fault.{Fault}
 use Rattle.refusal.specs.declared.Refusal.{Refusal}
 use Rattle.refusal.specs.declared.Refusal.the-variants as refusal
 use Rattle.ump.specs.Word.{octets, wordsOf}
 use Rattle.ump.specs.Packet.{sizeOf, payloadAt, joined, payload}
 use Rattle.ump.specs.Packing.{statusFor, frame, packsAt, packs, packetsFor, pack}
-use Rattle.ump.specs.Check.{first, badType, badStatus, badCount, badGroup, badId, statusNumber, checkPackets, check}
+use Rattle.ump.specs.Check.{firstWhere, badType, badStatus, badCount, badGroup, badId, statusNumber, checkPackets, check}
 use Rattle.ump.specs.Splice.{Spliced, stored, rewritten}
 use Rattle.ump.specs.Edits as ump
 use Rattle.ump.specs.Runs.{runFrom}
@@ -168,41 +169,41 @@ thirteen = 0x500E0001 ∷ 0x02030405 ∷ 0x06070809 ∷ 0x0A0B0C0D ∷ []
 
 -- the first edit alone is done
 all-first : AllShut message5 12 numbers8 bytes8 (leaves (short (0x510505B0 ∷ 0xB1A1A200 ∷ [])))
-unfolding ump.spliceAll ump.editsFrom ump.replaced rewritten stored check checkPackets badType badStatus badCount badGroup badId statusNumber first payload payloadAt sizeOf octets pack packs packsAt packetsFor statusFor frame joined wordsOf
+unfolding ump.spliceAll ump.editsFrom ump.replaced rewritten stored check checkPackets badType badStatus badCount badGroup badId statusNumber firstWhere payload payloadAt sizeOf octets pack packs packsAt packetsFor statusFor frame joined wordsOf
 all-first κs a x s w p = differ (word 0) tt (rw (w .0 .0, w .0 .1, w .0 .2, w .0 .3, w .1) at p)
 
 -- a range is moved by the growth of all edits, or not at all: the byte before the second range is taken out
 all-moved : AllShut message5 12 numbers8 bytes8 (leaves (short (0x510405B0 ∷ 0xB1A20000 ∷ [])))
-unfolding ump.spliceAll ump.editsFrom ump.replaced rewritten stored check checkPackets badType badStatus badCount badGroup badId statusNumber first payload payloadAt sizeOf octets pack packs packsAt packetsFor statusFor frame joined wordsOf
+unfolding ump.spliceAll ump.editsFrom ump.replaced rewritten stored check checkPackets badType badStatus badCount badGroup badId statusNumber firstWhere payload payloadAt sizeOf octets pack packs packsAt packetsFor statusFor frame joined wordsOf
 all-moved κs a x s w p = differ (word 1) tt (rw (w .0 .0, w .0 .1, w .0 .2, w .0 .3, w .1) at p)
 
 -- the growth is that of the edit done last
 all-growth : AllShut message5 12 numbers8 bytes8 (answers 4 (pos 1))
-unfolding ump.spliceAll ump.editsFrom ump.replaced rewritten stored check checkPackets badType badStatus badCount badGroup badId statusNumber first payload payloadAt sizeOf octets pack packs packsAt packetsFor statusFor frame joined wordsOf
+unfolding ump.spliceAll ump.editsFrom ump.replaced rewritten stored check checkPackets badType badStatus badCount badGroup badId statusNumber firstWhere payload payloadAt sizeOf octets pack packs packsAt packetsFor statusFor frame joined wordsOf
 all-growth κs a x s w p = differ tells tt (rw (w .0 .0, w .0 .1, w .0 .2, w .0 .3, w .1) at p)
 
 -- edits that overlap are taken, and ones that touch are refused
 all-overlap : AllShut message5 12 (0 ∷ 2 ∷ 2 ∷ 1 ∷ 3 ∷ 0 ∷ []) bytes8 accepts
-unfolding ump.spliceAll ump.editsFrom ump.replaced rewritten stored check checkPackets badType badStatus badCount badGroup badId statusNumber first payload payloadAt sizeOf octets pack packs packsAt packetsFor statusFor frame joined wordsOf
+unfolding ump.spliceAll ump.editsFrom ump.replaced rewritten stored check checkPackets badType badStatus badCount badGroup badId statusNumber firstWhere payload payloadAt sizeOf octets pack packs packsAt packetsFor statusFor frame joined wordsOf
 all-overlap κs a x s w p = never-both (ap (λ (o : Answer Spliced × List ℕ). o .0) (rw (w .0 .0, w .0 .1, w .0 .2, w .0 .3, w .1 .is) at p))
 
 all-touching : AllShut message5 12 (0 ∷ 1 ∷ 2 ∷ 1 ∷ 3 ∷ 0 ∷ []) bytes8 refuses
-unfolding ump.spliceAll ump.editsFrom ump.replaced rewritten stored check checkPackets badType badStatus badCount badGroup badId statusNumber first payload payloadAt sizeOf octets pack packs packsAt packetsFor statusFor frame joined wordsOf
+unfolding ump.spliceAll ump.editsFrom ump.replaced rewritten stored check checkPackets badType badStatus badCount badGroup badId statusNumber firstWhere payload payloadAt sizeOf octets pack packs packsAt packetsFor statusFor frame joined wordsOf
 all-touching κs a x s w p = never-refused (ap (λ (o : Answer Spliced × List ℕ). o .0) (rw (w .0 .0, w .0 .1, w .0 .2, w .0 .3, w .1 .is) at p))
 
 -- replacement bytes that no edit has are taken
 all-bytes : AllShut message5 12 numbers8 (0xB0 ∷ 0xB1 ∷ 0xB2 ∷ []) accepts
-unfolding ump.spliceAll ump.editsFrom ump.replaced rewritten stored check checkPackets badType badStatus badCount badGroup badId statusNumber first payload payloadAt sizeOf octets pack packs packsAt packetsFor statusFor frame joined wordsOf
+unfolding ump.spliceAll ump.editsFrom ump.replaced rewritten stored check checkPackets badType badStatus badCount badGroup badId statusNumber firstWhere payload payloadAt sizeOf octets pack packs packsAt packetsFor statusFor frame joined wordsOf
 all-bytes κs a x s w p = never-both (ap (λ (o : Answer Spliced × List ℕ). o .0) (rw (w .0 .0, w .0 .1, w .0 .2, w .0 .3, w .1 .is) at p))
 
 -- room is judged in the middle: thirteen bytes, five put in and then five taken out, in four words, are refused
 all-middle : AllShut thirteen 4 (0 ∷ 0 ∷ 5 ∷ 8 ∷ 13 ∷ 0 ∷ []) (21 ∷ 22 ∷ 23 ∷ 24 ∷ 25 ∷ []) refuses
-unfolding ump.spliceAll ump.editsFrom ump.replaced rewritten stored check checkPackets badType badStatus badCount badGroup badId statusNumber first payload payloadAt sizeOf octets pack packs packsAt packetsFor statusFor frame joined wordsOf
+unfolding ump.spliceAll ump.editsFrom ump.replaced rewritten stored check checkPackets badType badStatus badCount badGroup badId statusNumber firstWhere payload payloadAt sizeOf octets pack packs packsAt packetsFor statusFor frame joined wordsOf
 all-middle κs a x s w p = never-refused (ap (λ (o : Answer Spliced × List ℕ). o .0) (rw (w .0 .0, w .0 .1, w .0 .2, w .0 .3, w .1 .is) at p))
 
 -- room is judged late: the last byte is taken out before two are refused
 all-late : AllShut thirteen 4 (0 ∷ 0 ∷ 2 ∷ 12 ∷ 13 ∷ 0 ∷ []) bytes8 (leaves (0x500D0001 ∷ 0x02030405 ∷ 0x06070809 ∷ 0x0A0B0C00 ∷ []))
-unfolding ump.spliceAll ump.editsFrom ump.replaced rewritten stored check checkPackets badType badStatus badCount badGroup badId statusNumber first payload payloadAt sizeOf octets pack packs packsAt packetsFor statusFor frame joined wordsOf
+unfolding ump.spliceAll ump.editsFrom ump.replaced rewritten stored check checkPackets badType badStatus badCount badGroup badId statusNumber firstWhere payload payloadAt sizeOf octets pack packs packsAt packetsFor statusFor frame joined wordsOf
 all-late κs a x s w p = differ (word 0) tt (rw (w .0 .0, w .0 .1, w .0 .2, w .0 .3, w .1) at p)
 
 -- ---- where an octet comes from
@@ -257,7 +258,7 @@ record OriginShutOut : Type 0 where
   origin-refused : AskedShut message5 5 NotGiven
 
 origin-shut-out : OriginShutOut
-unfolding origin originIn originOf runFrom ump.editsFrom ump.replaced check checkPackets badType badStatus badCount badGroup badId statusNumber first payload payloadAt sizeOf octets packetsFor statusFor joined
+unfolding origin originIn originOf runFrom ump.editsFrom ump.replaced check checkPackets badType badStatus badCount badGroup badId statusNumber firstWhere payload payloadAt sizeOf octets packetsFor statusFor joined
 origin-shut-out = record {
   origin-replaced = λ κs a x s w p. wrong kind tt (rw (w .0, w .1, w .2, w .3, w .4, w .5) at p);
   origin-first = λ κs a x s w p. wrong kind tt (rw (w .0, w .1, w .2, w .3, w .4, w .5) at p);

@@ -1,6 +1,7 @@
 -- Any two outcomes that a promise allows are equal: the answer, and all lent words after a call that writes. Assumes nothing.
 use mathlib.Core.Path.{sym, _∙_}
-use Rattle.refusal.proofs.Tight.{FixesResult, FixesOutcome, both-fixed}
+use Rattle.refusal.specs.Tight.{FixesResult, FixesOutcome}
+use Rattle.refusal.proofs.Tight.{both-fixed}
 use Rattle.splice.specs.Meaning.{splicedMeaning}
 use Rattle.splice.proofs.Unique.{spliced-once}
 use Rattle.edit.proofs.Once.{grown-once, moved-once, origin-once}

@@ -5,12 +5,12 @@ use mathlib.Core.List.{List}
 use Prim.Native.Nat.{ℕ}
 use contract.Lifetimes.{Lfts}
 use borrow.Fn.Kinds.{Dens}
-use Rattle.refusal.specs.Answer.{Answer}
-use Rattle.refusal.proofs.Called.{Called}
+use Rattle.refusal.specs.Answer.{Answer, mapAnswer}
+use Rattle.refusal.specs.Tight.{Called}
 use Rattle.ump.specs.Splice as ump
 use Rattle.ump.specs.Edits.{Edit}
 use Rattle.ump.specs.Origin.{Origin}
-use Rattle.ump.specs.Worker.{mapAnswer, over}
+use Rattle.ump.specs.Worker.{withRange}
 use Rattle.ump.specs.Demand.{Family}
 use Rattle.splice.specs.Meaning.{repackedMeaning, splicedMeaning}
 use Rattle.splice.proofs.sysex8.repack.Kinds as repack-kinds
@@ -58,7 +58,7 @@ struct edit = record { from = edit .from; to = edit .to; length = edit .length }
 abbrev pub Moves : Edit → Edit → Bool → Answer Edit → Type 0
 Moves done pending done-first answer =
     Called 0 move-kinds.ps move-kinds.r move.Post (λ κs a. a ≡ (struct done, (struct pending, (done-first, tt))))
-    (λ κs said. mapAnswer (over pending) (movedMeaning said)) (λ κs exit. Unit {0}) answer
+    (λ κs said. mapAnswer (withRange pending) (movedMeaning said)) (λ κs exit. Unit {0}) answer
 
 -- `repack` is called on these words and this length
 abbrev pub Repacks : List ℕ → ℕ → Answer ℕ → List ℕ → Type 0

@@ -3,6 +3,7 @@
 use Prim.Native.Nat.{_≤_}
 use lib.IntN.{ℤ}
 use Rattle.refusal.specs.Answer.{Answer, gives, _▷_, guard}
+use Rattle.ump.specs.Limits.{mostBytes}
 use Rattle.ump.specs.Edits.{Edit, growth, badEdit}
 
 -- Range, else replacement length minus range length
@@ -12,5 +13,5 @@ growthOf edit = guard (badEdit edit) 13 0 ▷ gives (growth edit)
 -- an edit that is not bad
 pub record Sound (edit : Edit) : Type 0 where
   pub forward : edit .from ≤ edit .to
-  pub end : edit .to ≤ 53248
-  pub size : edit .length ≤ 53248
+  pub end : edit .to ≤ mostBytes
+  pub size : edit .length ≤ mostBytes

@@ -31,9 +31,9 @@ abbrev pub movedMeaning : Moved → Answer ump.Range
 movedMeaning (moved.Range range) = gives (rangeMeaning range)
 movedMeaning (moved.Refused fault) = faultOf fault
 
-abbrev pub listedMeaning : Listed → Answer ℕ
-listedMeaning (listed.Size size) = gives size
-listedMeaning (listed.Refused fault) = faultOf fault
+abbrev pub sizeMeaning : Listed → Answer ℕ
+sizeMeaning (listed.Size size) = gives size
+sizeMeaning (listed.Refused fault) = faultOf fault
 
 abbrev pub originMeaning : OctetOrigin → Answer Origin
 originMeaning (origin.Header place) = gives (headerOctet (place .packet) (place .octet))

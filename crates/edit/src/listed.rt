@@ -5,7 +5,7 @@ ghost use Prim.Native.Nat.{_+_, _/_, _^_, _<_};
 ghost use lib.Dec.{eqb};
 ghost use lib.ListN.{length};
 ghost use Rattle.ump.specs.Edits.{lengths, someBad, someOverlap, perEdit, editIn, editsOf};
-ghost use Rattle.edit.specs.Meaning.{editMeaning, listedMeaning};
+ghost use Rattle.edit.specs.Meaning.{editMeaning, sizeMeaning};
 ghost use Rattle.edit.specs.Listed.{sizeAfter, listed};
 use crate::Edit;
 use refusal::Fault;
@@ -110,7 +110,7 @@ fn size_after(numbers: &[usize], size: usize, bytes: usize) -> usize
 // The checks of a list of edits of a payload of `size` bytes, Range then Overlap, and the size of the result.
 pub(crate) fn check_list(numbers: &[usize], size: usize, bytes: usize) -> Listed
     requires { ⌜ size + bytes < 2 ^ 64 ⌝ }
-    ensures { λ r. ⌜ listedMeaning r ≡ listed size bytes (now (numbers .entry)) ⌝ }
+    ensures { λ r. ⌜ sizeMeaning r ≡ listed size bytes (now (numbers .entry)) ⌝ }
 {
     if numbers.len() % NUMBERS != 0 {
         return Listed::Refused(crate::fault(Refusal::Range));

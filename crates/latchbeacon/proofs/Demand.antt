@@ -6,16 +6,18 @@ use native.Mathlib.Omega.{arith}
 use lib.Dec.{lit<}
 use denote.Ref.{RefT}
 use borrow.Author.Tests.{ne-eqb}
-use Rattle.refusal.specs.Answer.{Answer, gives, refused, Verdict}
+use Rattle.refusal.specs.Answer.{Answer, gives, refused, Verdict, mapAnswer}
 use Rattle.ump.specs.Packet.{sysex8}
 use Rattle.ump.specs.Splice.{Spliced, splice, repack}
 use Rattle.ump.specs.Edits.{Range, moveEdit, spliceAll}
-use Rattle.ump.specs.Worker.{mapAnswer, over, Finishes, bytesOf, start}
+use Rattle.ump.specs.Worker.{withRange, Finishes, bytesOf, start}
 use Rattle.ump.specs.Demand.{Audited}
 use Rattle.ump.specs.Origin.{Origin, headerOctet, carried, dumpByte, editByte, filler, zeroed, untouched, origin}
 use Rattle.ump.specs.Samples.{message5, patches8}
 use Rattle.ump.proofs.Numbered.{Numbered, accepted, numbered, repack-numbered, splice-numbered, all-numbered, origin-numbered, move-numbered}
-use Rattle.ump.proofs.Demand3.{dense8, PlainAnswers}
+use Rattle.ump.specs.Meets.{PlainAnswers}
+use Rattle.ump.specs.Orders.{BehindDiffers}
+use Rattle.ump.proofs.Limits.{dense8}
 use Rattle.ump.proofs.NotEmpty.{fits8}
 use Rattle.ump.proofs.Orders as orders
 use Rattle.edit.proofs.Audit as audit
@@ -84,7 +86,7 @@ answers =
         exit = (done .from, (done .to, (done .length, (pending .from, (pending .to, (pending .length, (done-first, tt)))))));
         promise = refl;
         given = refl;
-        answer-is = ap (mapAnswer (over pending)) (range-read (moveEdit done pending done-first) (move-numbered done pending done-first)) ∙ e;
+        answer-is = ap (mapAnswer (withRange pending)) (range-read (moveEdit done pending done-first) (move-numbered done pending done-first)) ∙ e;
         left = tt;
       };
     }
@@ -101,7 +103,7 @@ promised =
           (change-read _ (splice-numbered sysex8 words len (edit .from) (edit .to) bytes));
       moves = λ {done = done} {pending} {done-first} m.
           sym (m .answer-is)
-          ∙ ap (mapAnswer (over pending))
+          ∙ ap (mapAnswer (withRange pending))
           (ap rangeRead (rw (m .given) at (m .promise)) ∙ range-read (moveEdit done pending done-first) (move-numbered done pending done-first));
       repacks = λ {words = words} {len = len} r.
           let g = r .given in
@@ -162,5 +164,5 @@ pub finishes-down : Finishes (family .calls) (bytesOf patches8) (start message5 
 finishes-down = audited .demand3 fits8 .finishes (1 ∷ 0 ∷ []) (lit< tt, tt, (lit< tt, tt, tt))
 
 -- Two orders of the same edits leave other words behind the same message.
-pub behind-differs : orders.BehindDiffers (family .calls)
+pub behind-differs : BehindDiffers (family .calls)
 behind-differs = orders.behind-differs answers

@@ -3,7 +3,7 @@ use mathlib.Core.Path.{_≡_}
 use mathlib.Core.Bool.{cond}
 use mathlib.Core.Option.{none, some}
 use Rattle.refusal.specs.Answer.{Answer}
-use Rattle.refusal.proofs.Called.{Called}
+use Rattle.refusal.specs.Tight.{Called}
 use Rattle.chain.specs.Restore.{Description}
 use Rattle.chain.specs.Chained.{Restorer, Describer}
 use Rattle.restore.proofs.Calls.{restoreGiven, describeGiven}

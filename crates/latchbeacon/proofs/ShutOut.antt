@@ -6,12 +6,13 @@ use mathlib.Core.List.{List, [], _∷_, _++_}
 use Prim.Native.Nat.{ℕ, _+_, _*_}
 use lib.IntN.{ℤ, pos, negsuc}
 use lib.ListN.{getD, replicate}
-use Rattle.refusal.proofs.Tight.{ShutOut, Shuts, differ}
+use Rattle.refusal.specs.Tight.{ShutOut, Shuts}
+use Rattle.refusal.proofs.Tight.{differ}
 use Rattle.ump.specs.Word.{getField, octets, wordsOf}
 use Rattle.ump.specs.Packet.{sizeOf, payloadAt, joined, payload}
 use Rattle.ump.specs.Packing.{statusFor, frame, packsAt, packs, packetsFor, pack}
 use Rattle.ump.specs.Single.{readPacket8, blank}
-use Rattle.ump.specs.Check.{first, badType, badStatus, badCount, badGroup, badId, statusNumber, checkPackets, check, checked}
+use Rattle.ump.specs.Check.{firstWhere, badType, badStatus, badCount, badGroup, badId, statusNumber, checkPackets, check, checked}
 use Rattle.ump.specs.Splice.{stored, rewritten, splice}
 use Rattle.ump.specs.Edits.{moveEdit, editsFrom, replaced}
 use Rattle.ump.specs.Runs.{runFrom}
@@ -91,13 +92,13 @@ packet-end κs a x s w p = differ (λ (r : PacketAnswer). r .kind) tt (rw (w .0,
 -- the stream id is not left out
 check-id : ShutOut 1 check-kinds.ps check-kinds.r check-promise.Post
     (λ κs a x s. (a .0 .now ≡ message2) × (a .1 .0 ≡ 4) × (x ≡ record { refusal = 0; place = 0; group = 2; id = 0; size = 2; words = 4 }))
-unfolding checked check checkPackets badType badStatus badCount badGroup badId statusNumber first statusFor payload payloadAt sizeOf octets joined
+unfolding checked check checkPackets badType badStatus badCount badGroup badId statusNumber firstWhere statusFor payload payloadAt sizeOf octets joined
 check-id κs a x s w p = differ (λ (r : MessageAnswer). r .id) tt (rw (w .0, w .1, w .2) at p)
 
 -- a refused message has no words
 check-words : ShutOut 1 check-kinds.ps check-kinds.r check-promise.Post
     (λ κs a x s. (a .0 .now ≡ alone 0x50110000) × (a .1 .0 ≡ 4) × (x ≡ record { refusal = 6; place = 0; group = 0; id = 0; size = 0; words = 4 }))
-unfolding checked check checkPackets badType badStatus badCount badGroup badId statusNumber first statusFor payload payloadAt sizeOf octets joined
+unfolding checked check checkPackets badType badStatus badCount badGroup badId statusNumber firstWhere statusFor payload payloadAt sizeOf octets joined
 check-words κs a x s w p = differ (λ (r : MessageAnswer). r .words) tt (rw (w .0, w .1, w .2) at p)
 
 -- ---- a change: P2's message with its last byte taken out
@@ -109,7 +110,7 @@ shorter = 0x52020741 ∷ 0 ∷ 0 ∷ 0 ∷ []
 change-growth : ShutOut 2 splice-kinds.ps splice-kinds.r splice-promise.Post
     (λ κs a x s. (a .0 .now ≡ message2) × (a .1 .0 ≡ 4) × (a .1 .1 .0 ≡ 1) × (a .1 .1 .1 .0 ≡ 2) × (a .1 .1 .1 .1 .0 .now ≡ [])
     × (x ≡ record { refusal = 0; place = 0; length = 4; growth = pos 1 }) × (s .0 .now ≡ shorter))
-unfolding splice check checkPackets badType badStatus badCount badGroup badId statusNumber first statusFor payload payloadAt sizeOf octets joined stored rewritten frame packsAt packs packetsFor pack wordsOf
+unfolding splice check checkPackets badType badStatus badCount badGroup badId statusNumber firstWhere statusFor payload payloadAt sizeOf octets joined stored rewritten frame packsAt packs packetsFor pack wordsOf
 change-growth κs a x s w p =
     differ (λ (o : ChangeAnswer × List ℕ). signed (o .0 .growth)) tt (rw (w .0, w .1, w .2, w .3, w .4, w .5, w .6) at p)
 
@@ -117,7 +118,7 @@ change-growth κs a x s w p =
 change-words : ShutOut 2 splice-kinds.ps splice-kinds.r splice-promise.Post
     (λ κs a x s. (a .0 .now ≡ message2) × (a .1 .0 ≡ 4) × (a .1 .1 .0 ≡ 1) × (a .1 .1 .1 .0 ≡ 2) × (a .1 .1 .1 .1 .0 .now ≡ [])
     × (x ≡ record { refusal = 0; place = 0; length = 4; growth = negsuc 0 }) × (s .0 .now ≡ message2))
-unfolding splice check checkPackets badType badStatus badCount badGroup badId statusNumber first statusFor payload payloadAt sizeOf octets joined stored rewritten frame packsAt packs packetsFor pack wordsOf
+unfolding splice check checkPackets badType badStatus badCount badGroup badId statusNumber firstWhere statusFor payload payloadAt sizeOf octets joined stored rewritten frame packsAt packs packetsFor pack wordsOf
 change-words κs a x s w p =
     differ (λ (o : ChangeAnswer × List ℕ). getD (o .1) 0 0) tt (rw (w .0, w .1, w .2, w .3, w .4, w .5, w .6) at p)
 
@@ -152,24 +153,24 @@ OriginShut q answer =
 
 -- a byte of the edit has its place in the replacement and not in the packet
 origin-place : OriginShut 19 (record { refusal = 0; place = 0; kind = 2; number = 0; index = 0 })
-unfolding origin originIn originOf runFrom editsFrom replaced check checkPackets badType badStatus badCount badGroup badId statusNumber first statusFor payload payloadAt sizeOf octets joined packetsFor
+unfolding origin originIn originOf runFrom editsFrom replaced check checkPackets badType badStatus badCount badGroup badId statusNumber firstWhere statusFor payload payloadAt sizeOf octets joined packetsFor
 origin-place κs a x s w p = differ (λ (r : OriginAnswer). r .index) tt (rw (w .0, w .1, w .2, w .3, w .4, w .5) at p)
 
 -- a byte of the dump has no number
 origin-number : OriginShut 20 (record { refusal = 0; place = 0; kind = 1; number = 1; index = 1 })
-unfolding origin originIn originOf runFrom editsFrom replaced check checkPackets badType badStatus badCount badGroup badId statusNumber first statusFor payload payloadAt sizeOf octets joined packetsFor
+unfolding origin originIn originOf runFrom editsFrom replaced check checkPackets badType badStatus badCount badGroup badId statusNumber firstWhere statusFor payload payloadAt sizeOf octets joined packetsFor
 origin-number κs a x s w p = differ (λ (r : OriginAnswer). r .number) tt (rw (w .0, w .1, w .2, w .3, w .4, w .5) at p)
 
 -- ---- a cursor, and what it reads: P2's message
 
 cursor-size : ShutOut 1 open-kinds.ps open-kinds.r opened.Post
     (λ κs a x s. (a .0 .now ≡ message2) × (a .1 .0 ≡ 4) × (x ≡ record { refusal = 0; place = 0; packet = 0; byte = 0; remaining = 3 }))
-unfolding reader check checkPackets badType badStatus badCount badGroup badId statusNumber first statusFor payload payloadAt sizeOf octets joined
+unfolding reader check checkPackets badType badStatus badCount badGroup badId statusNumber firstWhere statusFor payload payloadAt sizeOf octets joined
 cursor-size κs a x s w p = differ (λ (r : CursorAnswer). r .remaining) tt (rw (w .0, w .1, w .2) at p)
 
 cursor-refused : ShutOut 1 open-kinds.ps open-kinds.r opened.Post
     (λ κs a x s. (a .0 .now ≡ alone 0x50110000) × (a .1 .0 ≡ 4) × (x ≡ record { refusal = 0; place = 0; packet = 0; byte = 0; remaining = 0 }))
-unfolding reader check checkPackets badType badStatus badCount badGroup badId statusNumber first statusFor payload payloadAt sizeOf octets joined
+unfolding reader check checkPackets badType badStatus badCount badGroup badId statusNumber firstWhere statusFor payload payloadAt sizeOf octets joined
 cursor-refused κs a x s w p = differ (λ (r : CursorAnswer). r .refusal) tt (rw (w .0, w .1, w .2) at p)
 
 -- a byte that stands there is no end

@@ -1,6 +1,7 @@
 -- Any two outcomes that a promise allows are equal: the answer, and what is lent for writing as it is after the call. Assumes nothing.
 use mathlib.Core.Path.{sym, _∙_}
-use Rattle.refusal.proofs.Tight.{FixesResult, FixesOutcome, both-fixed}
+use Rattle.refusal.specs.Tight.{FixesResult, FixesOutcome}
+use Rattle.refusal.proofs.Tight.{both-fixed}
 use Rattle.latchbeacon.proofs.fields.latchbeacon_bit.Kinds as bit-kinds
 use Rattle.latchbeacon.proofs.fields.latchbeacon_bit.Reads as bit
 use Rattle.latchbeacon.proofs.fields.latchbeacon_set_bit.Kinds as set-bit-kinds

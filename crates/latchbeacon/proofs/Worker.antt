@@ -5,12 +5,12 @@ use mathlib.Core.Bool.{Bool, cond}
 use mathlib.Core.List.{List}
 use Prim.Native.Nat.{ℕ}
 use lib.Dec.{eqb}
-use Rattle.refusal.specs.Answer.{Answer, gives, refused, Verdict}
-use Rattle.refusal.proofs.Called.{Called}
+use Rattle.refusal.specs.Answer.{Answer, gives, refused, Verdict, mapAnswer}
+use Rattle.refusal.specs.Tight.{Called}
 use Rattle.ump.specs.Splice.{Spliced}
 use Rattle.ump.specs.Edits.{Edit, Range}
 use Rattle.ump.specs.Origin.{Origin, headerOctet, carried, dumpByte, editByte, filler, zeroed, untouched}
-use Rattle.ump.specs.Worker.{mapAnswer, over}
+use Rattle.ump.specs.Worker.{withRange}
 use Rattle.ump.specs.Demand.{Family}
 use Rattle.edit.proofs.Worker.{spliceGiven, repackGiven, listGiven, askGiven}
 use Rattle.answers.specs.declared.NumberAnswer.{NumberAnswer}
@@ -70,7 +70,7 @@ abbrev pub Moves : Edit → Edit → Bool → Answer Edit → Type 0
 Moves done pending done-first answer =
     Called 0 move-kinds.ps move-kinds.r exported-move.Post
     (λ κs a. a ≡ (done .from, (done .to, (done .length, (pending .from, (pending .to, (pending .length, (done-first, tt))))))))
-    (λ κs said. mapAnswer (over pending) (rangeRead said)) (λ κs exit. Unit {0}) answer
+    (λ κs said. mapAnswer (withRange pending) (rangeRead said)) (λ κs exit. Unit {0}) answer
 
 -- `latchbeacon_sysex8_repack` is called on these words and this length
 abbrev pub Repacks : List ℕ → ℕ → Answer ℕ → List ℕ → Type 0

@@ -1,6 +1,6 @@
 -- The exported call that writes a byte stream, with any outcome that its promise allows. Definitions alone. Assumes nothing.
 use mathlib.Core.Path.{_≡_}
-use Rattle.refusal.proofs.Called.{Called}
+use Rattle.refusal.specs.Tight.{Called}
 use Rattle.ump.specs.RealTime.{Writer}
 use Rattle.stream.proofs.Writer.{streamGiven}
 use Rattle.latchbeacon.proofs.Worker.{numberRead}

@@ -10,10 +10,10 @@ use Rattle.refusal.specs.Answer.{gives, pass}
 use Rattle.ump.specs.Word.{octet}
 use Rattle.ump.specs.Packet.{sysex8, firstWord, groupAt, statusAt, countAt, sizeAt, joined}
 use Rattle.ump.specs.Check.{check}
-use Rattle.ump.specs.Single.{Kind, Packet, blank, kindFor, unexpected, unexpectedEnd, end}
+use Rattle.ump.specs.Single.{Kind, Packet, blank, kindFor, unexpected, unexpectedEnd, end, packetAt}
 use Rattle.ump.proofs.Sizes.{size-small}
 use Rattle.ump.proofs.Checks.{passes-valid}
-use Rattle.ump.proofs.Singles.{packetAt, status-four}
+use Rattle.ump.proofs.Singles.{status-four}
 use Rattle.listing.specs.Listing.{number, statusName, idEnd, line, packetLine, twoNumbers}
 use Rattle.listing.specs.Steps.{statusOf}
 use Rattle.listing.proofs.Decimal.{length-decimal}

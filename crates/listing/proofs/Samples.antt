@@ -5,7 +5,7 @@ use lib.ListN.{take}
 use Rattle.ump.specs.Word.{octets, wordsOf}
 use Rattle.ump.specs.Packet.{sizeOf, payloadAt, joined, payload}
 use Rattle.ump.specs.Packing.{statusFor}
-use Rattle.ump.specs.Check.{first, badType, badStatus, badCount, badGroup, badId, statusNumber, checkPackets, check, checked}
+use Rattle.ump.specs.Check.{firstWhere, badType, badStatus, badCount, badGroup, badId, statusNumber, checkPackets, check, checked}
 use Rattle.ump.specs.Samples.{alone, message2, message4, message5}
 use Rattle.listing.specs.Listing.{ascii, lastDigits, heading, number, idEnd, statusName, line, packetLine, twoNumbers, wordsIn, checkedIn, refusalLine, messageText, textOf, listing}
 
@@ -24,7 +24,7 @@ pub record Samples : Type 0 where
   pub upper : listing (octets (alone 0x5F01EF00)) ≡ ascii "at group status count id\n0 15 complete 0 EF\npayload 0 words 4\n"
 
 pub samples : Samples
-unfolding octets wordsOf sizeOf payloadAt joined payload statusFor first badType badStatus badCount badGroup badId statusNumber checkPackets check checked lastDigits heading number idEnd statusName line packetLine twoNumbers wordsIn checkedIn refusalLine messageText textOf listing
+unfolding octets wordsOf sizeOf payloadAt joined payload statusFor firstWhere badType badStatus badCount badGroup badId statusNumber checkPackets check checked lastDigits heading number idEnd statusName line packetLine twoNumbers wordsIn checkedIn refusalLine messageText textOf listing
 samples = record {
   P5 = refl;
   P2 = refl;

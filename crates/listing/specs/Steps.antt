@@ -7,6 +7,7 @@ use Prim.Native.Nat.{ℕ, _+_}
 use lib.Dec.{ltb}
 use lib.ListN.{length, take, drop}
 use Rattle.refusal.specs.Answer.{Answer, gives, refused}
+use Rattle.ump.specs.Limits.{mostWords}
 use Rattle.ump.specs.Check.{Summary}
 use Rattle.ump.specs.Single.{Kind, complete, start, continue, end, unexpectedEnd}
 use Rattle.listing.specs.Listing.{wordsIn, checkedIn, refusalLine, listing}
@@ -40,7 +41,7 @@ load bytes words = (checkedIn (wordsIn bytes), wordsAfter (wordsIn bytes) words)
 -- Room where fewer than 16,384 words or 98,560 bytes of text are lent; else the size of the listing, the words and the text after
 unfoldable pub list : List ℕ → List ℕ → List ℕ → Answer ℕ × (List ℕ × List ℕ)
 list bytes words text =
-    cond (ltb (length words) 16384 || ltb (length text) 98560) (refused 14 0, (words, text))
+    cond (ltb (length words) mostWords || ltb (length text) 98560) (refused 14 0, (words, text))
     (gives (length (listing bytes)), (wordsAfter (wordsIn bytes) words, over (listing bytes) text))
 
 -- the line of a refusal alone: Room where fewer than 64 bytes are lent; else its size, and the text after

@@ -11,7 +11,7 @@ use lib.ListN.{length}
 use mir.Syntax.{w64}
 use mir.Val.{Fits}
 use Rattle.ump.specs.Packing.{statusFor}
-use Rattle.ump.specs.Check.{first}
+use Rattle.ump.specs.Check.{firstWhere}
 use Rattle.ump.proofs.Sizes.{status-small}
 use Rattle.ump.proofs.First.{first-le}
 use Rattle.message.specs.Scan.{Inside}
@@ -56,7 +56,7 @@ pub over-three : (status n p : ℕ) → 3 < status → not (eqb status (statusFo
 over-three status n p h = ap not (ne-eqb status (statusFor n p) (λ e. omega (arith, status-small n p)))
 
 -- the word index of the packet that a search found, or of none, fits
-pub found-fits : {stride n : ℕ} {ws : List ℕ} (f : ℕ → Bool) → Inside stride n ws → {i : ℕ} → i ≡ first f n → Fits w64 (stride * i)
+pub found-fits : {stride n : ℕ} {ws : List ℕ} (f : ℕ → Bool) → Inside stride n ws → {i : ℕ} → i ≡ firstWhere f n → Fits w64 (stride * i)
 found-fits {stride} {n} f h {i} e =
     let l : stride * i ≤ stride * n = mul-le-mul-left stride (rw e (first-le f n)) in
     record { fits = omega (arith, h .few) }

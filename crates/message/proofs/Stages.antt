@@ -10,7 +10,7 @@ use borrow.Author.Tests.{lt-ltb, le-ltb}
 use Rattle.refusal.specs.Answer.{refused, pass, _▷_, guard}
 use Rattle.ump.specs.Word.{octet}
 use Rattle.ump.specs.Packet.{Shape, firstWord}
-use Rattle.ump.specs.Check.{first, badType, badStatus, badCount, badGroup, badId, same, statusNumber, checkPackets}
+use Rattle.ump.specs.Check.{firstWhere, badType, badStatus, badCount, badGroup, badId, same, statusNumber, checkPackets}
 use Rattle.ump.proofs.First.{first-cong}
 use Rattle.message.specs.Scan.{otherAt, outOfStep, countOut, IdModulus, no-id, one-id, Shaped}
 
@@ -25,19 +25,19 @@ module _ {stride type least most modulus : ℕ} (s : Shape) (ws : List ℕ) (n :
   head = getD ws 0 0
 
   abbrev foreign : ℕ
-  foreign = first (otherAt stride ws 28 16 type) n
+  foreign = firstWhere (otherAt stride ws 28 16 type) n
 
   abbrev step : ℕ
-  step = first (outOfStep stride ws n) n
+  step = firstWhere (outOfStep stride ws n) n
 
   abbrev count : ℕ
-  count = first (countOut stride ws least most) n
+  count = firstWhere (countOut stride ws least most) n
 
   abbrev group : ℕ
-  group = first (otherAt stride ws 24 16 (head / 2 ^ 24 % 16)) n
+  group = firstWhere (otherAt stride ws 24 16 (head / 2 ^ 24 % 16)) n
 
   abbrev stream : ℕ
-  stream = first (otherAt stride ws 8 modulus (head / 2 ^ 8 % modulus)) n
+  stream = firstWhere (otherAt stride ws 8 modulus (head / 2 ^ 8 % modulus)) n
 
   head-is : firstWord s ws 0 ≡ head
   head-is = ap (λ (k : ℕ). getD ws k 0) (mul-zero (s .words))

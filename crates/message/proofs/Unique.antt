@@ -2,7 +2,8 @@
 use mathlib.Core.Path.{sym, _∙_}
 use Rattle.refusal.specs.Meaning.{storedMeaning}
 use Rattle.refusal.proofs.Laws.{stored-once, byte-once}
-use Rattle.refusal.proofs.Tight.{FixesResult, FixesOutcome, both-fixed}
+use Rattle.refusal.specs.Tight.{FixesResult, FixesOutcome}
+use Rattle.refusal.proofs.Tight.{both-fixed}
 use Rattle.message.specs.Meaning.{copiedMeaning}
 use Rattle.message.proofs.Once.{checked8-once, checked7-once, copied-once}
 use Rattle.message.proofs.sysex8.check.Kinds as check8-kinds

@@ -13,7 +13,8 @@ use Rattle.refusal.specs.Meaning.{faultOf}
 use Rattle.ump.specs.Word.{nibble}
 use Rattle.ump.specs.Packet.{Shape, payload}
 use Rattle.ump.specs.Packing.{statusFor}
-use Rattle.ump.specs.Check.{first, check, checkPackets, payloadOf}
+use Rattle.ump.specs.Limits.{mostWords}
+use Rattle.ump.specs.Check.{firstWhere, check, checkPackets, payloadOf}
 use Rattle.ump.specs.Edits.{total}
 use Rattle.ump.specs.Single.{withGroup}
 use Rattle.ump.specs.Setters.{withId}
@@ -22,7 +23,7 @@ use Rattle.ump.specs.Setters.{withId}
 pub record Inside (stride n : ℕ) (words : List ℕ) : Type 0 where
   pub some-words : 0 < stride
   pub there : stride * n ≤ length words
-  pub few : stride * n ≤ 16384
+  pub few : stride * n ≤ mostWords
 
 -- a field of the first word of packet p is not the value
 abbrev pub otherAt : ℕ → List ℕ → ℕ → ℕ → ℕ → ℕ → Bool
@@ -38,7 +39,7 @@ countOut stride words least most p = ltb (nibble (getD words (stride * p) 0) 3) 
 
 -- a message of n packets, as far as the numbers go: Long, Length, Short and Ragged do not refuse it
 pub record Framed (lent len stride n : ℕ) : Type 0 where
-  pub few : lent ≤ 16384
+  pub few : lent ≤ mostWords
   pub inside : len ≤ lent
   pub long-enough : stride ≤ len
   pub ragged-not : len % stride ≡ 0
@@ -104,7 +105,7 @@ pub record Sized (words : List ℕ) (n size : ℕ) : Type 0 where
 
 -- byte b of packet p, of n, is payload byte i
 pub record Found (stride least : ℕ) (words : List ℕ) (n i p b : ℕ) : Type 0 where
-  pub packet-is : p ≡ first (λ q. ltb i (sizeTo stride least words (suc q))) n
+  pub packet-is : p ≡ firstWhere (λ q. ltb i (sizeTo stride least words (suc q))) n
   pub byte-is : i ≡ sizeTo stride least words p + b
 
 -- a first word with another stream id, or with another group

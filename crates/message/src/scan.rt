@@ -4,7 +4,7 @@ ghost use mathlib.Core.Path.{_≡_};
 ghost use Prim.Native.Nat.{_/_, _≤_, _<_};
 ghost use Rattle.ump.specs.Packet.{Shape};
 ghost use Rattle.ump.specs.Packing.{statusFor};
-ghost use Rattle.ump.specs.Check.{first, statusNumber, check, checkPackets};
+ghost use Rattle.ump.specs.Check.{firstWhere, statusNumber, check, checkPackets};
 ghost use Rattle.refusal.specs.Number.{numberOf};
 ghost use Rattle.message.specs.Scan.{Inside, Packets, otherAt, outOfStep, countOut, faulty, one, Shaped, inOrder, Explains};
 use refusal::Fault;
@@ -40,7 +40,7 @@ fn first_other(
     value: u32,
 ) -> usize
     requires { ⌜ (Inside stride packets (now words)) × (low < 32) × (0 < modulus) ⌝ }
-    ensures { λ r. ⌜ r ≡ first (otherAt stride (now (words .entry)) low modulus value) packets ⌝ }
+    ensures { λ r. ⌜ r ≡ firstWhere (otherAt stride (now (words .entry)) low modulus value) packets ⌝ }
 {
     let mut packet = 0;
     let at = loop {
@@ -90,7 +90,7 @@ fn status_refusal(packets: usize, packet: usize) -> Refusal
 // The status walk: the first packet at fault ends it; their number if there is none.
 fn first_out_of_step(words: &[u32], stride: usize, packets: usize) -> usize
     requires { ⌜ Inside stride packets (now words) ⌝ }
-    ensures { λ r. ⌜ r ≡ first (outOfStep stride (now (words .entry)) packets) packets ⌝ }
+    ensures { λ r. ⌜ r ≡ firstWhere (outOfStep stride (now (words .entry)) packets) packets ⌝ }
 {
     let mut packet = 0;
     'packets: while packet < packets {
@@ -112,7 +112,7 @@ fn first_out_of_step(words: &[u32], stride: usize, packets: usize) -> usize
 // The first packet whose count is out of range; their number if there is none.
 fn first_bad_count(words: &[u32], stride: usize, packets: usize, least: u32, most: u32) -> usize
     requires { ⌜ Inside stride packets (now words) ⌝ }
-    ensures { λ r. ⌜ r ≡ first (countOut stride (now (words .entry)) least most) packets ⌝ }
+    ensures { λ r. ⌜ r ≡ firstWhere (countOut stride (now (words .entry)) least most) packets ⌝ }
 {
     let mut packet = 0;
     let at = loop {

@@ -2,7 +2,8 @@
 use mathlib.Core.Path.{sym, _∙_}
 use Rattle.refusal.specs.Meaning.{storedMeaning}
 use Rattle.refusal.proofs.Laws.{stored-once, byte-once}
-use Rattle.refusal.proofs.Tight.{FixesResult, FixesOutcome, both-fixed}
+use Rattle.refusal.specs.Tight.{FixesResult, FixesOutcome}
+use Rattle.refusal.proofs.Tight.{both-fixed}
 use Rattle.packet.proofs.Once.{packet8-once, packet7-once}
 use Rattle.packet.proofs.sysex8.read_packet.Kinds as read8-kinds
 use Rattle.packet.proofs.sysex8.read_packet.Reads as read8

@@ -31,13 +31,13 @@ kindMeaning (kind.UnexpectedEnd e) = ump.unexpectedEnd (validOf e)
 -- SysEx8: the stream id is a list of one
 abbrev pub packetMeaning8 : read8.PacketRead → Answer ump.Packet
 packetMeaning8 (read8.the-variants.Packet p) =
-    gives (record { kind = kindMeaning (p .kind); group = p .group; id = p .id ∷ []; size = p .size })
+    gives (ump.singlePacket (kindMeaning (p .kind)) (p .group) (p .id ∷ []) (p .size))
 packetMeaning8 (read8.the-variants.Refused fault) = faultOf fault
 
 -- SysEx7: no stream id
 abbrev pub packetMeaning7 : read7.PacketRead → Answer ump.Packet
 packetMeaning7 (read7.the-variants.Packet p) =
-    gives (record { kind = kindMeaning (p .kind); group = p .group; id = []; size = p .size })
+    gives (ump.singlePacket (kindMeaning (p .kind)) (p .group) [] (p .size))
 packetMeaning7 (read7.the-variants.Refused fault) = faultOf fault
 
 -- a kind with a payload size; a refusal stands at place 0

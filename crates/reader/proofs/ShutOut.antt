@@ -19,7 +19,7 @@ use Rattle.refusal.proofs.Tight.{differ, told}
 use Rattle.ump.specs.Word.{octets}
 use Rattle.ump.specs.Packet.{sizeOf, payloadAt, joined, payload}
 use Rattle.ump.specs.Packing.{statusFor}
-use Rattle.ump.specs.Check.{first, badType, badStatus, badCount, badGroup, badId, statusNumber, checkPackets, check}
+use Rattle.ump.specs.Check.{firstWhere, badType, badStatus, badCount, badGroup, badId, statusNumber, checkPackets, check}
 use Rattle.ump.specs.Reader as paper
 use Rattle.ump.specs.Reader.{row, walk, places, unread, bytesRemaining}
 use Rattle.ump.specs.Samples.{message2, message5, alone}
@@ -79,11 +79,11 @@ module _ (κs : Lfts 1) (ptr : ℕ × ℕ) (name : GName) where
   module _ (s : AtExit (endedOf 1 open-kinds.ps open-kinds.r) κs) where
     -- P5's message is opened at its second byte, or with its words for its bytes
     not-second : opening.Post κs (lent message5, (12, tt)) (opened.Cursor (at 0 1 3)) s → ⊥
-    unfolding paper.reader check checkPackets badType badStatus badCount badGroup badId statusNumber first statusFor payload payloadAt sizeOf octets joined
+    unfolding paper.reader check checkPackets badType badStatus badCount badGroup badId statusNumber firstWhere statusFor payload payloadAt sizeOf octets joined
     not-second p = differ (told (λ (c : paper.Cursor). c .byte)) tt p
 
     not-words : opening.Post κs (lent message5, (12, tt)) (opened.Cursor (at 0 0 12)) s → ⊥
-    unfolding paper.reader check checkPackets badType badStatus badCount badGroup badId statusNumber first statusFor payload payloadAt sizeOf octets joined
+    unfolding paper.reader check checkPackets badType badStatus badCount badGroup badId statusNumber firstWhere statusFor payload payloadAt sizeOf octets joined
     not-words p = differ (told (λ (c : paper.Cursor). c .remaining)) tt p
 
   module _ (s : AtExit (endedOf 1 nth-kinds.ps nth-kinds.r) κs) where

@@ -12,7 +12,7 @@ use contract.Monad.{Fun, fact, fact-mono, guard-conj}
 use denote.Ref.{now}
 use denote.Triple.Clauses.{Ended, AtExit, Clauses}
 use denote.Triple.Entry.{Args, Res}
-use Rattle.refusal.proofs.Tight.{FixesResult}
+use Rattle.refusal.specs.Tight.{FixesResult}
 use Rattle.ump.specs.Reader as paper
 use Rattle.reader.specs.Meaning.{stepMeaning}
 use Rattle.reader.specs.declared.PayloadReader.{PayloadReader}

@@ -4,7 +4,7 @@ use mathlib.Core.List.{List}
 use Prim.Native.Nat.{ℕ}
 use contract.Lifetimes.{Lfts}
 use borrow.Fn.Kinds.{Dens}
-use Rattle.refusal.proofs.Called.{Called}
+use Rattle.refusal.specs.Tight.{Called}
 use Rattle.store.specs.Meaning.{checkedMeaning}
 use Rattle.store.proofs.check.Kinds as check-kinds
 use Rattle.store.proofs.check.Reads as check

@@ -9,9 +9,9 @@ use native.Mathlib.Omega.{arith}
 use lib.ListN.{length, take, replicate}
 use lib.Seq.{take-at}
 use Rattle.refusal.specs.Answer.{Answer, gives, refused, Verdict, pass, writes}
-use Rattle.refusal.proofs.Laws.{never-refused}
+use Rattle.refusal.proofs.Laws.{never-refused, writes-given}
+use Rattle.ump.specs.Limits.{mostWords}
 use Rattle.ump.specs.Edits.{elem}
-use Rattle.ump.proofs.Done.{writes-given}
 use Rattle.store.specs.Store.{recordsOf, atStart, wellFormed, Dump, dumpNumber, dumpsOf, held, numbersOf, sound, check}
 use Rattle.store.proofs.Records.{and-true}
 use Rattle.store.proofs.Checks.{sound-good}
@@ -81,7 +81,7 @@ module _ (store : List ℕ) (s : sound store ≡ pass) where
   left-gone n h =
       record { steps = 0; number = n; come = refl; none-held = ap (λ (ds : List Dump). held ds n) (c .dumps) ∙ freed-held store n h }
 
-  pub left-missing : (n : ℕ) (words : List ℕ) → (Needed store n → ⊥) → length words ≤ 16384
+  pub left-missing : (n : ℕ) (words : List ℕ) → (Needed store n → ⊥) → length words ≤ mostWords
       → _≡_ {A = Answer ℕ × List ℕ} (refused 24 0, words) (restore new n words)
   left-missing n words h short =
       ap (answered words) (sym (missing-start (exceeds (length words)) (dumpsOf new) n (left-gone n h))) ∙ restore-is new n words short (c .passes)

@@ -6,6 +6,7 @@ use mathlib.Core.List.{List, _++_}
 use Prim.Native.Nat.{ℕ, zero, suc, _≤_}
 use lib.ListN.{length}
 use Rattle.refusal.specs.Answer.{Answer, refused, pass}
+use Rattle.ump.specs.Limits.{mostWords}
 use Rattle.ump.specs.Edits.{elem}
 use Rattle.store.specs.Store.{recordsOf, atStart, wellFormed, Dump, whole, delta, dumpNumber, dumpsOf, held, numbersOf, twice, sound}
 use Rattle.store.proofs.Records.{not-both}
@@ -85,7 +86,7 @@ module _ (ds es more : List Dump) (part : (n : ℕ) (d : Dump) → held es n ≡
 pub fewest-held : (store other more : List ℕ) → sound store ≡ pass → sound other ≡ pass → PartOf other store
     → wellFormed atStart (recordsOf more) ≡ true → sound (store ++ more) ≡ pass → sound (other ++ more) ≡ pass
     → (w n steps : ℕ) {d : Dump} → comes (dumpsOf store) steps w ≡ some n → held (dumpsOf store) n ≡ some d
-    → (words : List ℕ) {answer : Answer ℕ} {new : List ℕ} → length words ≤ 16384 → (answer ≡ refused 24 0 → ⊥)
+    → (words : List ℕ) {answer : Answer ℕ} {new : List ℕ} → length words ≤ mostWords → (answer ≡ refused 24 0 → ⊥)
     → _≡_ {A = Answer ℕ × List ℕ} (answer, new) (restore (other ++ more) w words)
     → held (dumpsOf other) n ≡ some d
 fewest-held store other more s t part formed a b w n steps come e words short found call =

@@ -3,12 +3,13 @@ use mathlib.Core.Path.{_≡_, refl, ap}
 use mathlib.Core.Bool.{not}
 use mathlib.Core.List.{List}
 use Prim.Native.Nat.{ℕ}
-use Rattle.refusal.specs.Answer.{Answer, gives, refused, Verdict, writes}
+use Rattle.refusal.specs.Answer.{Answer, gives, refused, Verdict}
 use Rattle.refusal.specs.Number.{numberOf}
 use Rattle.refusal.specs.declared.Refusal.{Refusal}
 use Rattle.refusal.specs.declared.Refusal.the-variants.{Missing}
-use Rattle.refusal.proofs.Laws.{faultBack, fault-back, name-of-number, Named, accepted, named, by-guard, by-both}
-use Rattle.refusal.proofs.Tight.{FixesOutcome, both-fixed, once}
+use Rattle.refusal.proofs.Laws.{faultBack, fault-back, name-of-number, Named, named, by-guard, by-both, writes-named}
+use Rattle.refusal.specs.Tight.{FixesOutcome}
+use Rattle.refusal.proofs.Tight.{both-fixed, once}
 use Rattle.ump.specs.Edits.{elem}
 use Rattle.store.specs.Store.{dumpsOf, numbersOf}
 use Rattle.store.proofs.Checks.{sound-named}
@@ -56,15 +57,11 @@ collected-meant (gives length) h = refl
 collected-meant (refused number place) (named r) = ap (λ (n : Refusal). refused (numberOf n) place) (name-of-number r)
 
 -- and each refusal is one of the names
-writes-named : {A : Type 0} (v : Verdict) (before after : List ℕ) (value : A) → Named v → Named (writes v before value after .0)
-writes-named (gives u) before after value h = accepted
-writes-named (refused number place) before after value (named r) = named r
-
 module _ (store : List ℕ) where
   pub mark-named : (n : ℕ) → Named (paper.mark store n .0)
   unfolding paper.mark
   mark-named n =
-      writes-named _ store _ tt (by-both _ _ (sound-named store) (by-guard (not (elem n (numbersOf (dumpsOf store)))) Missing 0))
+      writes-named _ store _ _ (by-both _ _ (sound-named store) (by-guard (not (elem n (numbersOf (dumpsOf store)))) Missing 0))
 
   pub collect-named : Named (paper.collect store .0)
   unfolding paper.collect

@@ -9,6 +9,7 @@ use Prim.Native.Nat.{ℕ, suc, _+_, _-_, _≤_, _<_}
 use lib.Dec.{eqb}
 use lib.ListN.{length, getD, take, drop, set, replicate}
 use Rattle.refusal.specs.Answer.{Answer, gives, refused, Verdict, pass}
+use Rattle.ump.specs.Limits.{mostWords}
 use Rattle.ump.specs.Edits.{elem}
 use Rattle.store.specs.Store.{isDump, recordsOf, pairAt, atStart, wellFormed, Dump, dumpNumber, dumpsOf, held, numbersOf, sound}
 use Rattle.chain.specs.Walk.{comes}
@@ -95,7 +96,7 @@ pub record Reclaimed (Checks : Checker) (Restores : Restorer) (Describes : Descr
       → {answer then : Answer Description} → Describes store n answer → Describes (take len left) n then → answer ≡ then
   -- Any other number is Missing then, to restore, to describe and to mark,
   pub freed-missing : {store : List ℕ} {len : ℕ} {left : List ℕ} → Collects store (gives len) left → {n : ℕ} → (Needed store n → ⊥)
-      → {words : List ℕ} {answer : Answer ℕ} {new : List ℕ} → length words ≤ 16384 → Restores (take len left) n words answer new
+      → {words : List ℕ} {answer : Answer ℕ} {new : List ℕ} → length words ≤ mostWords → Restores (take len left) n words answer new
       → (answer ≡ refused 24 0) × (new ≡ words)
   pub freed-described : {store : List ℕ} {len : ℕ} {left : List ℕ} → Collects store (gives len) left → {n : ℕ} → (Needed store n → ⊥)
       → {answer : Answer Description} → Describes (take len left) n answer → answer ≡ refused 24 0
@@ -117,6 +118,6 @@ pub record Reclaimed (Checks : Checker) (Restores : Restorer) (Describes : Descr
   pub fewest : (store other more : List ℕ) → sound store ≡ pass → sound other ≡ pass → PartOf other store
       → wellFormed atStart (recordsOf more) ≡ true → sound (store ++ more) ≡ pass → sound (other ++ more) ≡ pass
       → (w n steps : ℕ) {d : Dump} → elem w (wantedOf store) ≡ true → comes (dumpsOf store) steps w ≡ some n → held (dumpsOf store) n ≡ some d
-      → {words : List ℕ} {answer : Answer ℕ} {old new : List ℕ} → length words ≤ 16384 → (answer ≡ refused 24 0 → ⊥)
+      → {words : List ℕ} {answer : Answer ℕ} {old new : List ℕ} → length words ≤ mostWords → (answer ≡ refused 24 0 → ⊥)
       → Restores (store ++ more) w words answer old → Restores (other ++ more) w words answer new
       → held (dumpsOf other) n ≡ some d

@@ -5,7 +5,7 @@ use Prim.Native.Nat.{ℕ, _<_}
 use lib.Dec.{lit<}
 use native.Mathlib.Omega.{arith}
 use Rattle.refusal.proofs.Tight.{once}
-use Rattle.refusal.specs.Answer.{Answer, gives, refused, Verdict, pass, _▷_, guard}
+use Rattle.refusal.specs.Answer.{Answer, gives, refused, Verdict, pass, _▷_, guard, writesAs, writes}
 use Rattle.refusal.specs.Number.{numberOf, nameOf}
 use Rattle.refusal.specs.Meaning.{storedMeaning, byteMeaning}
 use Rattle.refusal.specs.declared.Refusal.{Refusal}
@@ -137,3 +137,21 @@ given-passes (refused n p) e = never-refused e
 pub refused-by : {A : Type 0} (v : Verdict) (a : A) {n p : ℕ} → v ▷ gives a ≡ refused n p → v ≡ refused n p
 refused-by (gives u) a e = never-both e
 refused-by (refused m q) a e = cc
+
+-- ---- a call that writes
+
+pub writes-named : {A B Lent : Type 0} (answer : Answer A) (before : Lent) (read : A → B) (after : A → Lent) → Named answer
+    → Named (writesAs answer before read after .0)
+writes-named (gives value) before read after h = accepted
+writes-named (refused number place) before read after (named r) = named r
+
+pub writes-given : {A Lent : Type 0} (v : Verdict) (before after : Lent) (value : A) {x : A} {left : Lent} → writes v before value after ≡ (gives x, left)
+    → (v ≡ pass) × (value ≡ x) × (after ≡ left)
+writes-given (gives u) before after value e = (refl, cc (ap (λ o. o .0) e), ap (λ o. o .1) e)
+writes-given (refused number place) before after value e = never-refused (ap (λ o. o .0) e)
+
+-- what is lent stays where it is refused
+pub writes-refused : {A B Lent : Type 0} (answer : Answer A) (before : Lent) (read : A → B) (after : A → Lent) {number place : ℕ} {left : Lent}
+    → writesAs answer before read after ≡ (refused number place, left) → (answer ≡ refused number place) × (left ≡ before)
+writes-refused (gives value) before read after e = never-both (ap (λ o. o .0) e)
+writes-refused (refused n p) before read after e = (let k = ap (λ o. o .0) e in cc, sym (ap (λ o. o .1) e))

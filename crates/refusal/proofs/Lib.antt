@@ -1,4 +1,3 @@
 pub mod Laws
 pub mod Tight
-pub mod Called
 pub mod Unique

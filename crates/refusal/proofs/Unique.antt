@@ -5,7 +5,7 @@ use contract.Lifetimes.{Lfts}
 use denote.Triple.Clauses.{AtExit}
 use borrow.Fn.Kinds.{endedOf}
 use Rattle.refusal.specs.declared.Refusal.the-variants.{Long, Ring}
-use Rattle.refusal.proofs.Tight.{FixesResult}
+use Rattle.refusal.specs.Tight.{FixesResult}
 use Rattle.refusal.proofs.number.Kinds as number-kinds
 use Rattle.refusal.proofs.number.Reads as number
 

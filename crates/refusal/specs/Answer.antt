@@ -1,7 +1,6 @@
 -- What a call answers: its values, or a refusal by document 01's number and a place.
 -- Assumes nothing.
 use mathlib.Core.Bool.{Bool, true, false}
-use mathlib.Core.List.{List}
 use Prim.Native.Nat.{ℕ}
 
 pub data Answer (A : Type 0) : Type 0 where
@@ -31,7 +30,17 @@ abbrev pub verdict : {A : Type 0} → Answer A → Verdict
 verdict (gives value) = pass
 verdict (refused number place) = refused number place
 
--- a call that writes: its answer, and what is lent as it is after the call; a refusal leaves that as it was before
-abbrev pub writes : {A : Type 0} → Verdict → List ℕ → A → List ℕ → Answer A × List ℕ
-writes (gives u) before value after = (gives value, after)
-writes (refused number place) before value after = (refused number place, before)
+-- what an answer says, its value read by f
+abbrev pub mapAnswer : {A B : Type 0} → (A → B) → Answer A → Answer B
+mapAnswer f (gives value) = gives (f value)
+mapAnswer f (refused number place) = refused number place
+
+-- a call that writes what its answer says: the answer, its value read so, and what is lent (a list, or several) as it is after the call;
+-- a refusal leaves that as it was before
+abbrev pub writesAs : {A B Lent : Type 0} → Answer A → Lent → (A → B) → (A → Lent) → Answer B × Lent
+writesAs (gives value) before read after = (gives (read value), after value)
+writesAs (refused number place) before read after = (refused number place, before)
+
+-- the same, where a check decides: one value, and one state after
+abbrev pub writes : {A Lent : Type 0} → Verdict → Lent → A → Lent → Answer A × Lent
+writes check before value after = writesAs check before (λ u. value) (λ u. after)

@@ -4,7 +4,7 @@ use mathlib.Core.List.{List}
 use Prim.Native.Nat.{ℕ}
 use contract.Lifetimes.{Lfts}
 use borrow.Fn.Kinds.{Dens}
-use Rattle.refusal.proofs.Called.{Called}
+use Rattle.refusal.specs.Tight.{Called}
 use Rattle.chain.specs.Meaning.{describedMeaning}
 use Rattle.chain.specs.Chained.{Restorer, Describer}
 use Rattle.chain.proofs.describe.Kinds as describe-kinds

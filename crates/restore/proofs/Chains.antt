@@ -9,13 +9,13 @@ use native.Mathlib.Omega.{arith}
 use lib.Dec.{ltb}
 use lib.ListN.{length}
 use borrow.Author.Tests.{ltb-false}
-use Rattle.refusal.specs.Answer.{Answer, gives, refused, Verdict, pass, _▷_, guard}
-use Rattle.refusal.proofs.Laws.{never-refused}
+use Rattle.refusal.specs.Answer.{Answer, gives, refused, Verdict, pass, _▷_, guard, mapAnswer}
+use Rattle.refusal.proofs.Laws.{never-refused, writes-refused}
 use Rattle.refusal.proofs.Laws as refusals
 use Rattle.ump.specs.Packet.{sysex8, joined}
 use Rattle.ump.specs.Packing.{wordsFor}
+use Rattle.ump.specs.Limits.{mostWords}
 use Rattle.ump.specs.Edits.{Patch, replaced}
-use Rattle.ump.specs.Worker.{mapAnswer}
 use Rattle.ump.proofs.Done.{guard-passed}
 use Rattle.store.specs.Store.{Dump, delta, dumpsOf, sound, held}
 use Rattle.store.proofs.Checks.{sound-good}
@@ -31,27 +31,17 @@ use Rattle.chain.proofs.Needs.{roomed-is, given-either, refused-either, needs-e
 
 -- ---- the call
 
-answered-refused : (words : List ℕ) (a : Answer Payload) {number place : ℕ} → answered words a .0 ≡ refused number place
-    → a ≡ refused number place
-answered-refused words (gives p) e = refusals.never-both e
-answered-refused words (refused k l) e = cc
-
 -- a refusal keeps the words
-answered-keeps : (words : List ℕ) (a : Answer Payload) {number place : ℕ} {left : List ℕ}
-    → _≡_ {A = Answer ℕ × List ℕ} (refused number place, left) (answered words a) → left ≡ words
-answered-keeps words (gives p) e = never-refused (ap (λ (o : Answer ℕ × List ℕ). o .0) e)
-answered-keeps words (refused k l) e = ap (λ (o : Answer ℕ × List ℕ). o .1) e
-
 pub restore-keeps : (store : List ℕ) (n : ℕ) (words : List ℕ) {number place : ℕ} {left : List ℕ}
     → _≡_ {A = Answer ℕ × List ℕ} (refused number place, left) (restore store n words) → left ≡ words
 unfolding restore
 restore-keeps store n words e =
-    answered-keeps words (guard (ltb 16384 (length words)) 1 0 ▷ sound store ▷ begun (exceeds (length words)) (dumpsOf store) n) e
+    writes-refused (guard (ltb mostWords (length words)) 1 0 ▷ sound store ▷ begun (exceeds (length words)) (dumpsOf store) n) words _ _ (sym e) .1
 
 -- a restore that is accepted
 pub record Accepted (store : List ℕ) (n : ℕ) (words : List ℕ) (len : ℕ) (left : List ℕ) : Type 0 where
   pub payload : Payload
-  pub lent : length words ≤ 16384
+  pub lent : length words ≤ mostWords
   pub is-sound : sound store ≡ pass
   pub is : begun (exceeds (length words)) (dumpsOf store) n ≡ gives payload
   pub length-is : wordsFor sysex8 (length (payload .bytes)) ≡ len
@@ -64,21 +54,21 @@ after-pass (refused number place) a e = never-refused e
 pub accepted : (store : List ℕ) (n : ℕ) (words : List ℕ) {len : ℕ} {left : List ℕ} → (gives len, left) ≡ restore store n words
     → Accepted store n words len left
 unfolding restore
-accepted store n words {len} {left} e = go (guard (ltb 16384 (length words)) 1 0 ▷ sound store ▷ inner) refl e
+accepted store n words {len} {left} e = go (guard (ltb mostWords (length words)) 1 0 ▷ sound store ▷ inner) refl e
   where
     inner : Answer Payload
     inner = begun (exceeds (length words)) (dumpsOf store) n
 
-    go : (v : Answer Payload) → guard (ltb 16384 (length words)) 1 0 ▷ sound store ▷ inner ≡ v → (gives len, left) ≡ answered words v
+    go : (v : Answer Payload) → guard (ltb mostWords (length words)) 1 0 ▷ sound store ▷ inner ≡ v → (gives len, left) ≡ answered words v
         → Accepted store n words len left
     go (refused number place) q h = refusals.never-both (ap (λ (o : Answer ℕ × List ℕ). o .0) h)
     go (gives payload) q h =
-        let a = after-pass (guard (ltb 16384 (length words)) 1 0) (sound store ▷ inner) q in
+        let a = after-pass (guard (ltb mostWords (length words)) 1 0) (sound store ▷ inner) q in
         let b = after-pass (sound store) inner (a .1) in
         let first : gives len ≡ gives (wordsFor sysex8 (length (payload .bytes))) = ap (λ (o : Answer ℕ × List ℕ). o .0) h in
         record {
           payload = payload;
-          lent = ltb-false 16384 (length words) (guard-passed (ltb 16384 (length words)) 1 0 (a .0));
+          lent = ltb-false mostWords (length words) (guard-passed (ltb mostWords (length words)) 1 0 (a .0));
           is-sound = b .0;
           is = b .1;
           length-is = cc;
@@ -170,7 +160,7 @@ module _ {store other : List ℕ} (same : SameDumps store other) where
   pub order-restore : (n : ℕ) (words : List ℕ) → restore store n words ≡ restore other n words
   unfolding restore
   order-restore n words =
-      ap (λ (a : Answer Payload). answered words (guard (ltb 16384 (length words)) 1 0 ▷ a))
+      ap (λ (a : Answer Payload). answered words (guard (ltb mostWords (length words)) 1 0 ▷ a))
       (behind (sound store) refl (λ p. same-begun p (exceeds (length words)) n)
       ∙ ap (λ (v : Verdict). v ▷ begun (exceeds (length words)) (dumpsOf other) n) same-sound)
 
@@ -263,7 +253,7 @@ pub record Promised (Restores : Restorer) (Describes : Describer) : Type 0 where
 
 module _ {Restores : Restorer} {Describes : Describer} (promised : Promised Restores Describes) where
   module _ {store : List ℕ} {n : ℕ} {words : List ℕ} {answer : Answer ℕ} {left : List ℕ} (c : Restores store n words answer left)
-      (passes : sound store ≡ pass) (short : length words ≤ 16384) where
+      (passes : sound store ≡ pass) (short : length words ≤ mostWords) where
     abbrev got : Answer Payload
     got = begun (exceeds (length words)) (dumpsOf store) n
 
@@ -274,7 +264,7 @@ module _ {Restores : Restorer} {Describes : Describer} (promised : Promised Rest
     answer-is = ap (λ (o : Answer ℕ × List ℕ). o .0) is
 
     refused-got : {number place : ℕ} → answer ≡ refused number place → got ≡ refused number place
-    refused-got e = answered-refused words got (sym answer-is ∙ e)
+    refused-got e = writes-refused got words _ _ (sym is ∙ ap (λ a. (a, left)) e) .0
 
     got-refused : {number place : ℕ} → got ≡ refused number place → (answer ≡ refused number place) × (left ≡ words)
     got-refused e = (
@@ -328,7 +318,7 @@ module _ {Restores : Restorer} {Describes : Describer} (promised : Promised Rest
       let same : _≡_ {A = Answer ℕ × List ℕ} (answer, left) (then, after) = promised .restores c ∙ e ∙ sym (promised .restores d) in
       (ap (λ (o : Answer ℕ × List ℕ). o .0) same, ap (λ (o : Answer ℕ × List ℕ). o .1) same)
 
-  said-refused : {store : List ℕ} {n number place : ℕ} {words : List ℕ} {answer : Answer ℕ} {left : List ℕ} → length words ≤ 16384
+  said-refused : {store : List ℕ} {n number place : ℕ} {words : List ℕ} {answer : Answer ℕ} {left : List ℕ} → length words ≤ mostWords
       → Restores store n words answer left
       → (sound store ≡ refused number place) ⊎ ((sound store ≡ pass) × (begun unlimited (dumpsOf store) n ≡ refused number place))
       → (answer ≡ refused number place) ⊎ ((number ≡ 13) × (answer ≡ refused 14 0))

@@ -10,6 +10,7 @@ use Rattle.refusal.specs.Number.{numberOf}
 use Rattle.refusal.specs.declared.Refusal.{Refusal}
 use Rattle.ump.specs.Packet.{sysex8}
 use Rattle.ump.specs.Packing.{wordsFor}
+use Rattle.ump.specs.Limits.{mostWords}
 use Rattle.store.specs.Store.{recordsOf, Dump, dumpsOf, atStart, wellFormed, sound}
 use Rattle.store.proofs.Forms.{All, Formed, all-formed}
 use Rattle.chain.specs.Restore.{Payload, exceeds, restored, laidOut, answered, restore}
@@ -58,16 +59,16 @@ module _ (lent left : ℕ) (store : List ℕ) (n : ℕ) {r : Laid} {scratch : Li
 -- ---- the whole call
 
 module _ (store : List ℕ) (n : ℕ) (words : List ℕ) where
-  pub restore-long : 16384 < length words → (refused 1 0, words) ≡ restore store n words
+  pub restore-long : mostWords < length words → (refused 1 0, words) ≡ restore store n words
   unfolding restore
-  restore-long h = rw (lt-ltb 16384 (length words) h)
+  restore-long h = rw (lt-ltb mostWords (length words) h)
 
-  pub restore-unsound : {number place : ℕ} → length words ≤ 16384 → sound store ≡ refused number place
+  pub restore-unsound : {number place : ℕ} → length words ≤ mostWords → sound store ≡ refused number place
       → (refused number place, words) ≡ restore store n words
   unfolding restore
-  restore-unsound h e = rw (le-ltb 16384 (length words) h, e)
+  restore-unsound h e = rw (le-ltb mostWords (length words) h, e)
 
-  pub restore-is : length words ≤ 16384 → sound store ≡ pass
+  pub restore-is : length words ≤ mostWords → sound store ≡ pass
       → answered words (restored (exceeds (length words)) (dumpsOf store) (suc (length (dumpsOf store))) n) ≡ restore store n words
   unfolding restore
-  restore-is h e = rw (le-ltb 16384 (length words) h, e)
+  restore-is h e = rw (le-ltb mostWords (length words) h, e)

@@ -11,6 +11,7 @@ use Rattle.refusal.specs.Answer.{Answer}
 use Rattle.ump.specs.Word.{word, wordsOf}
 use Rattle.ump.specs.Packet.{sysex8, groupAt, idAt, joined}
 use Rattle.ump.specs.Packing.{statusFor, frame, packsAt, packs, packetsFor, wordsFor, pack}
+use Rattle.ump.specs.Limits.{mostWords}
 use Rattle.ump.specs.Check.{Valid, payloadOf}
 use Rattle.ump.specs.Splice.{stored, rewritten, Spliced, splice, setPayload}
 use Rattle.ump.proofs.Sizes.{words-mono}
@@ -45,7 +46,7 @@ zeros-drop : (k n : ℕ) → _≡_ {A = List ℕ} (drop k (replicate (k + n) 0))
 unfolding zeros
 zeros-drop k n = drop-zeros k n
 
-module _ (group id : ℕ) (g : group < 16) (i : id < 256) (n : ℕ) (h : n ≤ 16384) (bytes : List ℕ) (room : wordsFor sysex8 (length bytes) ≤ n) where
+module _ (group id : ℕ) (g : group < 16) (i : id < 256) (n : ℕ) (h : n ≤ mostWords) (bytes : List ℕ) (room : wordsFor sysex8 (length bytes) ≤ n) where
   abbrev message : List ℕ
   message = pack sysex8 group (id ∷ []) bytes
 
@@ -110,7 +111,7 @@ unfolding packetsFor
 words-four n = let q : _≡_ {A = ℕ} (wordsFor sysex8 0) 4 = refl in omega (arith, words-mono sysex8 0 n (omega arith), q)
 
 -- what stands in the words after the three steps
-pub put-is : (group id : ℕ) → group < 16 → id < 256 → (before bytes : List ℕ) → length before ≤ 16384 → wordsFor sysex8 (length bytes) ≤ length before
+pub put-is : (group id : ℕ) → group < 16 → id < 256 → (before bytes : List ℕ) → length before ≤ mostWords → wordsFor sysex8 (length bytes) ≤ length before
     → {first : ℕ} {cleared after : List ℕ} {answer : Answer Spliced} → cleared ≡ replicate (length before) 0 → first ≡ emptyWord group id
     → (answer, after) ≡ setPayload sysex8 (set cleared 0 first) 4 bytes → after ≡ laidOut (length before) (record { group = group; id = id; bytes = bytes })
 put-is group id g i before bytes h room {first} {cleared} {after} {answer} c f e =

@@ -7,7 +7,8 @@ use Rattle.refusal.specs.declared.Refusal.{Refusal}
 use Rattle.refusal.specs.declared.Refusal.the-variants.{Room, Ring}
 use Rattle.refusal.specs.declared.Fault.{Fault}
 use Rattle.refusal.proofs.Laws.{never-both, never-refused}
-use Rattle.refusal.proofs.Tight.{ShutOut, differ, told}
+use Rattle.refusal.specs.Tight.{ShutOut}
+use Rattle.refusal.proofs.Tight.{differ, told}
 use Rattle.ump.specs.Word.{wordsOf}
 use Rattle.ump.specs.Packet.{joined}
 use Rattle.ump.specs.Packing.{pack, packs, packsAt, packetsFor, frame, statusFor}

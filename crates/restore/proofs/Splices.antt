@@ -9,6 +9,7 @@ use Rattle.refusal.specs.Answer.{gives}
 use Rattle.ump.specs.Word.{Below}
 use Rattle.ump.specs.Packet.{sysex8, groupAt, idAt, joined}
 use Rattle.ump.specs.Packing.{wordsFor, pack}
+use Rattle.ump.specs.Limits.{mostWords}
 use Rattle.ump.specs.Check.{payloadOf}
 use Rattle.ump.specs.Edits.{Edit, Patch, Apart, allBytes, replaced}
 use Rattle.ump.specs.Origin.{dumpByte, isFrom, howMany}
@@ -36,7 +37,7 @@ use Rattle.restore.proofs.Traces.{length-laid, laid-front, traced}
 -- ---- a restore that is accepted
 
 -- the words are the fewest-packet form of its payload
-laid-fewest : (lent : ℕ) (p : Payload) → Fitting p → wordsFor sysex8 (length (p .bytes)) ≤ lent → lent ≤ 16384
+laid-fewest : (lent : ℕ) (p : Payload) → Fitting p → wordsFor sysex8 (length (p .bytes)) ≤ lent → lent ≤ mostWords
     → Fewest sysex8 (p .group) (p .id ∷ []) (p .bytes) lent (laidOut lent p) (wordsFor sysex8 (length (p .bytes)))
 unfolding laidOut
 laid-fewest lent p fit room h =

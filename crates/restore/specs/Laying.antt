@@ -6,6 +6,7 @@ use Prim.Native.Nat.{ℕ, _*_, _≤_, _<_}
 use lib.ListN.{length, take}
 use Rattle.refusal.specs.Answer.{Answer, gives, refused, pass}
 use Rattle.refusal.specs.Number.{numberOf}
+use Rattle.ump.specs.Limits.{mostWords}
 use Rattle.store.specs.Store.{mostDumps, sound}
 use Rattle.store.specs.Places.{Noted}
 use Rattle.chain.specs.Restore.{Payload}
@@ -56,7 +57,7 @@ pub record Readied (store places words : List ℕ) : Type 0 where
   pub noted : Noted store places
   pub good : sound store ≡ pass
   pub few : length places ≤ mostDumps
-  pub lent : length words ≤ 16384
+  pub lent : length words ≤ mostWords
 
 -- a scratch of 13 bytes for each 4 words lent: what has no room in it has none in the words
 abbrev pub Roomy : List ℕ → List ℕ → Type 0

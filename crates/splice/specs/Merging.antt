@@ -8,6 +8,7 @@ use lib.ListN.{length, take, drop, getD}
 use Rattle.ump.specs.Word.{Below}
 use Rattle.ump.specs.Packet.{sysex8}
 use Rattle.ump.specs.Packing.{wordsFor}
+use Rattle.ump.specs.Limits.{mostWords, mostBytes}
 use Rattle.ump.specs.Check.{payloadOf}
 use Rattle.ump.specs.Edits.{Edit, Apart, editIn, editsOf, lengths, patchesOf, perEdit, replaced}
 use Rattle.flow.specs.Digits.{val}
@@ -65,7 +66,7 @@ unfoldable pub Turns : Bool → Bool → ℕ → ℕ → ℕ → ℕ → ℕ →
 Turns shrunk grow size lag total given end at m start [] = (at ≤ size) × ((m + (size - at) ≡ total) × Ahead size lag at m)
 Turns shrunk grow size lag total given end at m start (edit ∷ edits) =
     let step = stepOf shrunk grow end edit in
-    ((end ≤ edit .from) × ((edit .from ≤ edit .to) × ((edit .length ≤ 53248) × ((at + step .kept + step .out ≤ size)
+    ((end ≤ edit .from) × ((edit .from ≤ edit .to) × ((edit .length ≤ mostBytes) × ((at + step .kept + step .out ≤ size)
     × ((start + edit .length ≤ given) × Ahead size lag at m)))))
     × Turns shrunk grow size lag total given (edit .to) (at + step .kept + step .out) (m + step .kept + step .put) (start + edit .length) edits
 
@@ -84,7 +85,7 @@ pub record Merges (words : List ℕ) (head size total : ℕ) (numbers bytes : Li
       (beginOf numbers size) (beginOf numbers size) (beginOf numbers size) 0 (editsOf numbers)
   pub held : 4 * packets size ≤ length words
   pub needed : 4 * packets total ≤ length words
-  pub small : length words ≤ 16384
+  pub small : length words ≤ mostWords
   pub free : head ≤ 4294967040
   pub plain : head % 256 ≡ 0
 
@@ -132,8 +133,8 @@ widths (edit ∷ edits) = width edit + widths edits
 -- ranges are never reversed, and neither their widths nor the lengths come to more than a message holds
 pub record Summed (numbers : List ℕ) : Type 0 where
   pub forward : (i : ℕ) → i < length numbers / perEdit → editIn numbers i .from ≤ editIn numbers i .to
-  pub out : widths (editsOf numbers) ≤ 53248
-  pub put : lengths (editsOf numbers) ≤ 53248
+  pub out : widths (editsOf numbers) ≤ mostBytes
+  pub put : lengths (editsOf numbers) ≤ mostBytes
 
 -- all edits of a list can be done on the words
 pub record Lists (words : List ℕ) (head size total : ℕ) (numbers bytes source : List ℕ) : Type 0 where
@@ -145,7 +146,7 @@ pub record Lists (words : List ℕ) (head size total : ℕ) (numbers bytes sourc
   pub result : total ≡ length (replaced source (patchesOf (editsOf numbers) bytes))
   pub held : 4 * packets size ≤ length words
   pub needed : 4 * packets total ≤ length words
-  pub small : length words ≤ 16384
+  pub small : length words ≤ mostWords
   pub free : head ≤ 4294967040
   pub plain : head % 256 ≡ 0
 

@@ -5,6 +5,7 @@ use Prim.Native.Nat.{ℕ, _+_, _-_, _*_, _/_, _%_, _^_, _≤_, _<_}
 use lib.ListN.{length, take, drop, getD}
 use Rattle.ump.specs.Word.{Below}
 use Rattle.ump.specs.Packet.{sysex8}
+use Rattle.ump.specs.Limits.{mostWords}
 use Rattle.flow.specs.Digits.{val}
 use Rattle.flow.specs.Flowing.{flowWord, numberWord, Put, Flow, Appended}
 use Rattle.splice.specs.Thirteens.{body}
@@ -32,7 +33,7 @@ pub record Padded (p : Pending) : Type 0 where
 pub record Reaches (room head : ℕ) (p : Pending) (some : ℕ) : Type 0 where
   pub padded : Padded p
   pub fits : 4 * ((taken p + some) / 13) ≤ room
-  pub small : room ≤ 16384
+  pub small : room ≤ mostWords
   pub free : head ≤ 4294967040
 
 -- a piece of some bytes, the first of this number, after what waits
@@ -54,7 +55,7 @@ pub record Runs (Comes : List ℕ → List ℕ → Type 0) (ws : List ℕ) (head
   pub comes : Comes w bytes
   pub fits : p .high < 2 ^ 40
   pub room : 4 * ((taken p + some) / 13) ≤ length ws
-  pub small : length ws ≤ 16384
+  pub small : length ws ≤ mostWords
   pub free : head ≤ 4294967040
 
 -- some bytes more are taken, of whatever words and bytes they come from

@@ -4,7 +4,8 @@ use mathlib.Core.List.{List, [], _∷_, _++_}
 use Prim.Native.Nat.{ℕ}
 use Rattle.refusal.specs.declared.Refusal.{Refusal}
 use Rattle.refusal.specs.declared.Refusal.the-variants.{Format, Twice}
-use Rattle.refusal.proofs.Tight.{ShutOut, differ, told}
+use Rattle.refusal.specs.Tight.{ShutOut}
+use Rattle.refusal.proofs.Tight.{differ, told}
 use Rattle.store.specs.Store.{isData, bodySize, recordsAfter, followsBy, allowedBy, wellFormed, dataIn, patchesIn, dumpOf, dumpsIn, twice, sound}
 use Rattle.store.specs.Samples.{one, two, bare, edit}
 use Rattle.store.specs.declared.Checked.{Checked}

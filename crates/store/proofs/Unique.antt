@@ -5,7 +5,8 @@ use Rattle.refusal.specs.Answer.{Answer, gives, refused}
 use Rattle.refusal.specs.Number.{numberOf}
 use Rattle.refusal.specs.declared.Refusal.{Refusal}
 use Rattle.refusal.proofs.Laws.{faultBack, fault-back, name-of-number, Named, named}
-use Rattle.refusal.proofs.Tight.{FixesResult, once}
+use Rattle.refusal.specs.Tight.{FixesResult}
+use Rattle.refusal.proofs.Tight.{once}
 use Rattle.store.specs.Meaning.{checkedMeaning}
 use Rattle.store.specs.declared.Checked.{Checked}
 use Rattle.store.specs.declared.Checked.the-variants as checked

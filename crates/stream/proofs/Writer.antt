@@ -4,7 +4,7 @@ use mathlib.Core.List.{List}
 use Prim.Native.Nat.{ℕ}
 use contract.Lifetimes.{Lfts}
 use borrow.Fn.Kinds.{Dens}
-use Rattle.refusal.proofs.Called.{Called}
+use Rattle.refusal.specs.Tight.{Called}
 use Rattle.ump.specs.RealTime.{Writer}
 use Rattle.stream.specs.Meaning.{writtenMeaning}
 use Rattle.stream.proofs.to_sysex7.Kinds as kinds

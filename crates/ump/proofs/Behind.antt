@@ -11,13 +11,10 @@ use borrow.Author.Tests.{lt-ltb, le-ltb}
 use Rattle.ump.specs.Packet.{Shape, groupAt, idAt}
 use Rattle.ump.specs.Packing.{wordsFor, pack}
 use Rattle.ump.specs.Splice.{stored, rewritten}
+use Rattle.ump.specs.Holds.{Behind}
 use Rattle.ump.proofs.First.{Side, under, over, side}
 use Rattle.ump.proofs.Packing.{length-pack}
 use Rattle.ump.proofs.Splicing.{length-id}
-
--- of these words, now `left` with a message of `new` words: the longest that stood there had `most`
-pub record Behind (words : List ℕ) (most : ℕ) (left : List ℕ) (new : ℕ) : Type 0 where
-  pub word : (i : ℕ) → new ≤ i → getD left i 0 ≡ cond (ltb i most) 0 (getD words i 0)
 
 pub behind-none : (words : List ℕ) (len : ℕ) → Behind words len words len
 behind-none words len = record { word = λ i h. rw (le-ltb i len h) }

@@ -11,7 +11,8 @@ use lib.ListN.{length}
 use Rattle.refusal.specs.Answer.{gives, refused, Verdict, pass, _▷_, guard}
 use Rattle.refusal.proofs.Laws.{never-refused}
 use Rattle.ump.specs.Packet.{Shape, countAt, idAt}
-use Rattle.ump.specs.Check.{first, sweep, statusNumber, same, badType, badStatus, badCount, badGroup, badId, checkPackets, check, Valid}
+use Rattle.ump.specs.Limits.{mostWords}
+use Rattle.ump.specs.Check.{firstWhere, sweep, statusNumber, same, badType, badStatus, badCount, badGroup, badId, checkPackets, check, Valid}
 use Rattle.ump.proofs.Sizes.{words-pos}
 use Rattle.ump.proofs.First.{first-none, first-before}
 
@@ -26,7 +27,7 @@ guard-pass false nr at e = refl
 
 pub pass-sweep : (s : Shape) (nr : ℕ → ℕ) (bad : ℕ → Bool) (n : ℕ) → sweep s nr bad n ≡ pass → (p : ℕ) → p < n → bad p ≡ false
 pass-sweep s nr bad n e p h =
-    let k : n ≤ first bad n = ltb-false (first bad n) n (guard-pass _ _ _ e) in
+    let k : n ≤ firstWhere bad n = ltb-false (firstWhere bad n) n (guard-pass _ _ _ e) in
     first-before bad n p (omega arith)
 
 pub pass-both : (u v : Verdict) → u ▷ v ≡ pass → (u ≡ pass) × (v ≡ pass)
@@ -75,7 +76,7 @@ valid-passes s ws len v =
     let q : len / s .words ≡ n = rw (v .whole) (mul-div-right n (words-pos s)) in
     let r : len % s .words ≡ 0 = rw (v .whole) (mul-mod-right (s .words) n) in
     let l : s .words ≤ len = rw (v .whole) (le-mul-of-pos-right (s .words) (v .some-packet)) in
-    both-pass (guard-no _ 1 0 (le-ltb 16384 (length ws) (v .short-enough)))
+    both-pass (guard-no _ 1 0 (le-ltb mostWords (length ws) (v .short-enough)))
     (both-pass (guard-no _ 2 0 (le-ltb (length ws) len (v .inside)))
     (both-pass (guard-no _ 3 0 (le-ltb len (s .words) l))
     (both-pass (guard-no _ 4 0 (ap not (eq-eqb (len % s .words) 0 r)))

@@ -2,44 +2,33 @@
 -- with any outcome that the calls allow, meets no refusal and comes to one message. Assumes nothing.
 use mathlib.Core.Path.{_≡_, refl, sym, ap, _∙_}
 use mathlib.Core.List.{List, [], _∷_}
-use Prim.Native.Nat.{ℕ, _-_, _*_, _≤_}
-use native.Mathlib.Nat.{mul-assoc, mul-le-mul-right}
+use Prim.Native.Nat.{ℕ, _≤_}
 use native.Mathlib.Omega.{arith}
 use lib.ListN.{length, take}
 use Rattle.refusal.specs.Answer.{pass}
 use Rattle.ump.specs.Word.{Below}
 use Rattle.ump.specs.Packet.{Shape, groupAt, idAt}
-use Rattle.ump.specs.Packing.{wordsFor, packetsFor, pack}
+use Rattle.ump.specs.Packing.{wordsFor, pack}
+use Rattle.ump.specs.Limits.{mostBytes, Dense}
 use Rattle.ump.specs.Check.{check, payloadOf}
 use Rattle.ump.specs.Splice.{rewritten}
 use Rattle.ump.specs.Edits.{Patch, patchAt, editAt, replaced, Order}
-use Rattle.ump.specs.Holds.{Holds, Fewest}
+use Rattle.ump.specs.Holds.{Holds, Fewest, Behind}
 use Rattle.ump.specs.Worker.{Calls, Held, End, finished, stopped, Works, rests, Finishes, Fits, bytesOf, Each, Placed, reached}
-use Rattle.ump.proofs.Meets.{View, Meets, Answers, mostBytes, Begins}
-use Rattle.ump.proofs.Sizes.{packets-enough}
+use Rattle.ump.specs.Meets.{View, Meets, Answers, mostOnTheWay, Begins}
+use Rattle.ump.proofs.Limits.{dense-fits}
 use Rattle.ump.proofs.Checks.{passes-valid}
 use Rattle.ump.proofs.Replace.{mixed-none, mixed-order, after}
 use Rattle.ump.proofs.Splicing.{rewritten-holds, rewritten-fewest}
-use Rattle.ump.proofs.Moving.{editNow, none-moved}
+use Rattle.ump.specs.Partly.{editNow}
+use Rattle.ump.proofs.Moving.{none-moved}
 use Rattle.ump.proofs.Steps.{order-below, Ends, At, Has, works, placed, behind, goes}
-use Rattle.ump.proofs.Behind.{Behind}
 
 -- ---- the theorems
 
--- a packet has at most 13 bytes for each four words, so that a message of 16,384 words has at most 53,248
-abbrev pub Dense : Shape → Type 0
-Dense s = 4 * s .room ≤ 13 * s .words
-
-most-small : (s : Shape) → Dense s → (n size : ℕ) → wordsFor s n ≤ size → size ≤ 16384 → n ≤ 53248
-most-small s dense n size w l =
-    let k : ℕ = packetsFor s n in
-    let bytes : n ≤ s .room * k = packets-enough s n in
-    let more : 4 * s .room * k ≤ 13 * s .words * k = mul-le-mul-right k dense in
-    omega (arith, mul-assoc 4 (s .room) k, mul-assoc 13 (s .words) k)
-
--- so there are never more on the way
-pub fits-small : {s : Shape} → Dense s → {words : List ℕ} {len : ℕ} {patches : List Patch} → Fits s words len patches → mostBytes s words len patches ≤ 53248
-fits-small {s} dense {words} {len} fits = most-small s dense _ (length words) (fits .room) (passes-valid s words len (fits .passes) .short-enough)
+-- no more bytes than the limit are on the way
+pub fits-small : {shape : Shape} → Dense shape → {words : List ℕ} {len : ℕ} {patches : List Patch} → Fits shape words len patches → mostOnTheWay shape words len patches ≤ mostBytes
+fits-small {shape} dense {words} {len} fits = dense-fits shape dense _ (length words) (fits .room) (passes-valid shape words len (fits .passes) .short-enough)
 
 -- two messages that are the fewest-packet form of the same bytes, with one group and id: the same length and the same words. (Words
 -- past the message may differ.)
@@ -68,7 +57,7 @@ rewritten-is-fewest s words len new ok small room =
 
 module _ {Lent Record : Type 0} {s : Shape} (dense : Dense s) {view : View Lent Record} {calls : Calls Lent Record} {patches : List Patch} {held : Held Lent Record}
     (fits : Fits s (view .wordsOf (held .lent)) (held .length) patches)
-    (meets : Meets s (mostBytes s (view .wordsOf (held .lent)) (held .length) patches) view calls)
+    (meets : Meets s (mostOnTheWay s (view .wordsOf (held .lent)) (held .length) patches) view calls)
     (begins : Begins s view patches held) where
   abbrev words : List ℕ
   words = view .wordsOf (held .lent)
@@ -82,7 +71,7 @@ module _ {Lent Record : Type 0} {s : Shape} (dense : Dense s) {view : View Lent 
   abbrev payload : List ℕ
   payload = payloadOf s words (held .length)
 
-  small : mostBytes s words (held .length) patches ≤ 53248
+  small : mostOnTheWay s words (held .length) patches ≤ mostBytes
   small = fits-small dense fits
 
   abbrev HasNow : List ℕ → Lent → ℕ → Type 0
@@ -135,7 +124,7 @@ module _ {Lent Record : Type 0} {s : Shape} (dense : Dense s) {view : View Lent 
   result-beside (i ∷ order) o {left} {len} w = ends i order o (finished left len) w .beside
 
   -- 3. In each order, of all the edits or of some, there is a worker that finishes, if the calls have an outcome where the definitions give one.
-  pub finishes : Answers s (mostBytes s words (held .length) patches) view calls → (order : List ℕ) → Order (length patches) order
+  pub finishes : Answers s (mostOnTheWay s words (held .length) patches) view calls → (order : List ℕ) → Order (length patches) order
       → Finishes calls (bytesOf patches) held order
   finishes answers order o =
       goes s view calls group id payload (length words) patches (fits .apart) (fits .bytes) (fits .room) small meets answers order [] held (at-first order o)

@@ -4,7 +4,6 @@ use mathlib.Core.Path.{_≡_, refl, sym, ap, _∙_}
 use mathlib.Core.Bool.{Bool}
 use mathlib.Core.List.{List}
 use Prim.Native.Nat.{ℕ}
-use lib.Dec.{lit≤}
 use lib.ListN.{length, take}
 use Rattle.refusal.specs.Answer.{Answer, gives}
 use Rattle.ump.specs.Word.{Below}
@@ -14,14 +13,16 @@ use Rattle.ump.specs.Splice.{Spliced, splice}
 use Rattle.ump.specs.Edits.{Edit, Patch, replaced}
 use Rattle.ump.specs.Worker.{Calls, Held, Works, finished, Fits, bytesOf, start, Each, reached}
 use Rattle.ump.specs.Demand.{Demand3}
-use Rattle.ump.proofs.Meets.{movedEdit, View, plain, Meets, Answers, mostBytes, Begins}
-use Rattle.ump.proofs.Demand.{Dense, same-message, no-refusal, result, finishes, places, rest}
+use Rattle.ump.specs.Meets.{movedEdit, View, plain, Meets, Answers, mostOnTheWay, Begins, PlainMeets, PlainAnswers, defined}
+use Rattle.ump.specs.Limits.{Dense}
+use Rattle.ump.proofs.Limits.{dense7}
+use Rattle.ump.proofs.Demand.{same-message, no-refusal, result, finishes, places, rest}
 use Rattle.ump.proofs.Origins.{traced}
 
 pub demand3 : {Lent Record : Type 0} {s : Shape} → Dense s → {view : View Lent Record} {calls : Calls Lent Record} {patches : List Patch} {held : Held Lent Record}
     → Fits s (view .wordsOf (held .lent)) (held .length) patches
-    → Meets s (mostBytes s (view .wordsOf (held .lent)) (held .length) patches) view calls
-    → Answers s (mostBytes s (view .wordsOf (held .lent)) (held .length) patches) view calls
+    → Meets s (mostOnTheWay s (view .wordsOf (held .lent)) (held .length) patches) view calls
+    → Answers s (mostOnTheWay s (view .wordsOf (held .lent)) (held .length) patches) view calls
     → Begins s view patches held → Demand3 s (view .wordsOf) (view .editOf) calls patches held
 demand3 {s = s} dense {view} {patches = patches} {held = held} fits meets answers begins =
     record {
@@ -51,20 +52,6 @@ two-workers {patches = patches} d d′ g i p {order} {order′} e e′ w w′ =
 
 -- ---- calls on words alone, with edits that know no size
 
--- of bytes of the shape, where the definitions accept, each outcome of the two calls is theirs
-pub record PlainMeets (s : Shape) (calls : Calls (List ℕ) Edit) : Type 0 where
-  pub splices : {words left : List ℕ} {len : ℕ} {edit : Edit} {bytes : List ℕ} {answer : Answer Spliced} {change : Spliced} {after : List ℕ}
-      → Below (s .limit) bytes → splice s words len (edit .from) (edit .to) bytes ≡ (gives change, after) → calls .Splices words len edit bytes answer left
-      → _≡_ {A = Answer Spliced × List ℕ} (answer, left) (gives change, after)
-  pub moves : {done pending edit : Edit} {done-first : Bool} {answer : Answer Edit}
-      → movedEdit done pending done-first ≡ gives edit → calls .Moves done pending done-first answer → answer ≡ gives edit
-
--- and there is one
-pub record PlainAnswers (s : Shape) (calls : Calls (List ℕ) Edit) : Type 0 where
-  pub can-splice : {words left : List ℕ} {len : ℕ} {edit : Edit} {bytes : List ℕ} {change : Spliced}
-      → Below (s .limit) bytes → splice s words len (edit .from) (edit .to) bytes ≡ (gives change, left) → calls .Splices words len edit bytes (gives change) left
-  pub can-move : {done pending edit : Edit} {done-first : Bool} → movedEdit done pending done-first ≡ gives edit → calls .Moves done pending done-first (gives edit)
-
 pub plain-demand3 : {s : Shape} → Dense s → {calls : Calls (List ℕ) Edit} → PlainMeets s calls → PlainAnswers s calls
     → {words : List ℕ} {len : ℕ} {patches : List Patch} → Fits s words len patches
     → Demand3 s (λ words. words) (λ edit. edit) calls patches (start words len patches)
@@ -90,23 +77,10 @@ plain-demand3 {s} dense {calls} meets answers fits = demand3 dense {view = plain
 
 -- ---- calls that promise just the definitions, for any shape
 
-abbrev pub defined : Shape → Calls (List ℕ) Edit
-defined s =
-    record {
-      Splices = λ words len edit bytes answer left. _≡_ {A = Answer Spliced × List ℕ} (answer, left) (splice s words len (edit .from) (edit .to) bytes);
-      Moves = λ done pending done-first answer. answer ≡ movedEdit done pending done-first;
-    }
-
 pub defined-demand3 : {s : Shape} → Dense s → {words : List ℕ} {len : ℕ} {patches : List Patch} → Fits s words len patches
     → Demand3 s (λ words. words) (λ edit. edit) (defined s) patches (start words len patches)
 defined-demand3 dense =
     plain-demand3 dense (record { splices = λ b e call. call ∙ e; moves = λ e call. call ∙ e }) (record { can-splice = λ b e. sym e; can-move = λ e. sym e })
-
-pub dense8 : Dense sysex8
-dense8 = lit≤ tt
-
-pub dense7 : Dense sysex7
-dense7 = lit≤ tt
 
 -- SysEx7 is a use as it stands
 pub sysex7-demand3 : {words : List ℕ} {len : ℕ} {patches : List Patch} → Fits sysex7 words len patches

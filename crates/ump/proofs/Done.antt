@@ -2,22 +2,17 @@
 use mathlib.Core.Path.{_≡_, refl, ap}
 use mathlib.Core.Bool.{Bool, true, false, _||_}
 use mathlib.Core.List.{List}
-use Prim.Native.Nat.{ℕ, _≤_}
+use Prim.Native.Nat.{ℕ, _-_, _≤_}
 use lib.Dec.{ltb}
 use lib.ListN.{length}
 use borrow.Author.Tests.{ltb-false}
-use Rattle.refusal.specs.Answer.{Answer, gives, refused, Verdict, pass, _▷_, guard, writes}
-use Rattle.refusal.proofs.Laws.{never-refused}
+use Rattle.refusal.specs.Answer.{gives, pass, _▷_, guard}
+use Rattle.refusal.proofs.Laws.{never-refused, writes-given}
 use Rattle.ump.specs.Packet.{Shape}
 use Rattle.ump.specs.Packing.{wordsFor}
 use Rattle.ump.specs.Check.{check, payloadOf}
 use Rattle.ump.specs.Splice.{spliced, rewritten, growthBy, Spliced, splice, repack}
 use Rattle.ump.proofs.Checks.{pass-both, or-left, or-right}
-
-pub writes-given : {A : Type 0} (v : Verdict) (before written : List ℕ) (value : A) {x : A} {left : List ℕ} → writes v before value written ≡ (gives x, left)
-    → (v ≡ pass) × (value ≡ x) × (written ≡ left)
-writes-given {A} (gives u) before written value e = (refl, cc (ap (λ (o : Answer A × List ℕ). o .0) e), ap (λ (o : Answer A × List ℕ). o .1) e)
-writes-given {A} (refused number place) before written value e = never-refused (ap (λ (o : Answer A × List ℕ). o .0) e)
 
 pub guard-passed : (b : Bool) (number place : ℕ) → guard b number place ≡ pass → b ≡ false
 guard-passed true number place e = never-refused e
@@ -44,7 +39,7 @@ known s words len from to bytes change left e =
     ▷ guard (ltb to from || ltb (length old) to) 13 0
     ▷ guard (ltb len (wordsFor s (length old))) 19 0
     ▷ guard (ltb (length words) (wordsFor s (length new))) 14 0)
-    words (rewritten s words len new) (record { length = wordsFor s (length new); growth = growthBy from to (length bytes) }) e
+    words (rewritten s words len new) (record { length = wordsFor s (length new); growth = growthBy (length bytes) (to - from) }) e
     in
     let last = guard (ltb (length words) (wordsFor s (length new))) 14 0 in
     let spread = guard (ltb len (wordsFor s (length old))) 19 0 in

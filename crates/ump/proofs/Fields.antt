@@ -2,7 +2,7 @@
 -- Assumes nothing.
 use mathlib.Core.Path.{_≡_, refl, sym, ap, _∙_}
 use mathlib.Core.Bool.{Bool, true, false}
-use mathlib.Core.Logic.{_⊎_, inl, inr}
+use mathlib.Core.Logic.{inl, inr}
 use Prim.Native.Nat.{ℕ, suc, _+_, _-_, _*_, _/_, _%_, _^_, _≤_, _<_}
 use native.Mathlib.Nat.{mod-lt, mul-le-mul-right, suc-mul}
 use native.Mathlib.Decide.{decLt}
@@ -12,7 +12,7 @@ use lib.Pow.{pow-pos, high, low, shr-shr, field, mod-mod-pow}
 use borrow.Author.Tests.{leb-false, le-leb, lt-leb}
 use Rattle.refusal.specs.Answer.{gives, refused, _▷_, guard}
 use Rattle.refusal.proofs.Laws.{never-refused}
-use Rattle.ump.specs.Word.{Field, bitField, septetField, shift, part, withPart, getField, setField}
+use Rattle.ump.specs.Word.{Field, bitField, septetField, shift, part, withPart, getField, setField, Disjoint}
 
 -- ---- parts of a word
 
@@ -101,10 +101,6 @@ module _ (kind : Field) (x i : ℕ) where
         go false false p b e = record { there = leb-false _ _ p; fits = leb-false _ _ b; word = cc }
 
 -- ---- what is read after a field was set
-
--- field i of one kind and field j of another share no bit
-abbrev pub Disjoint : Field → ℕ → Field → ℕ → Type 0
-Disjoint kind i other j = (shift other j + other .width ≤ shift kind i) ⊎ (shift kind i + kind .width ≤ shift other j)
 
 -- of two fields of a kind, the later ends where the earlier begins, or before
 shift-below : (kind : Field) → kind .width ≤ kind .step → (i j : ℕ) → i < j → j < kind .count

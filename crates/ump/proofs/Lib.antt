@@ -2,6 +2,7 @@ pub mod Fields
 pub mod Words
 pub mod Joined
 pub mod Sizes
+pub mod Limits
 pub mod First
 pub mod Packing
 pub mod Checks
@@ -26,7 +27,6 @@ pub mod Runs
 pub mod Sources
 pub mod Origins
 pub mod Counting
-pub mod Meets
 pub mod Steps
 pub mod Demand
 pub mod Demand3

@@ -9,14 +9,15 @@ use Rattle.refusal.specs.Answer.{gives}
 use Rattle.ump.specs.Word.{Below}
 use Rattle.ump.specs.Packet.{Shape, groupAt, countAt, idAt, payloadAt, joined, payload}
 use Rattle.ump.specs.Packing.{packs, packetsFor, wordsFor, chunk, pack}
-use Rattle.ump.specs.Check.{payloadOf, checked, Valid}
+use Rattle.ump.specs.Limits.{mostWords}
+use Rattle.ump.specs.Check.{payloadOf, summary, checked, Valid}
 use Rattle.ump.proofs.Sizes.{words-pos, size-small, packets-pos, packets-least}
 use Rattle.ump.proofs.Packing.{length-packs, type-packs, group-packs, status-packs, count-packs, id-packs, payload-packs, length-chunk, below-chunk, joined-chunk}
 use Rattle.ump.proofs.Checks.{valid-passes}
 
 -- what the check answers of a valid message
 pub checked-valid : (s : Shape) (ws : List ℕ) (len : ℕ) → Valid s ws len
-    → checked s ws len ≡ gives (record { group = groupAt s ws 0; id = idAt s ws 0; size = length (payloadOf s ws len); words = len })
+    → checked s ws len ≡ gives (summary (groupAt s ws 0) (idAt s ws 0) (length (payloadOf s ws len)) len)
 unfolding checked
 checked-valid s ws len v = rw (valid-passes s ws len v)
 
@@ -33,7 +34,7 @@ module _ (s : Shape) (g : ℕ) (id : List ℕ) (n : ℕ) (c : ℕ → List ℕ)
   pub id-of-packs : idAt s (packs s g id n c ++ rest) 0 ≡ id
   id-of-packs = id-packs s g id n c hg ht bt hc bc rest 0 pn
 
-  pub packs-valid : length (packs s g id n c ++ rest) ≤ 16384 → Valid s (packs s g id n c ++ rest) (s .words * n)
+  pub packs-valid : length (packs s g id n c ++ rest) ≤ mostWords → Valid s (packs s g id n c ++ rest) (s .words * n)
   packs-valid h =
       let k = count-packs s g id n c hg ht bt hc bc rest in
       record {
@@ -49,9 +50,9 @@ module _ (s : Shape) (g : ℕ) (id : List ℕ) (n : ℕ) (c : ℕ → List ℕ)
         one-id = λ p l. id-packs s g id n c hg ht bt hc bc rest p l ∙ sym id-of-packs;
       }
 
-  pub checked-packs : length (packs s g id n c ++ rest) ≤ 16384
+  pub checked-packs : length (packs s g id n c ++ rest) ≤ mostWords
       → checked s (packs s g id n c ++ rest) (s .words * n)
-      ≡ gives (record { group = g; id = id; size = length (joined c n); words = s .words * n })
+      ≡ gives (summary g id (length (joined c n)) (s .words * n))
   checked-packs h = checked-valid s _ _ (packs-valid h) ∙ rw (group-of-packs, id-of-packs, payloadOf-packs)
 
 -- and so is the fewest-packet form
@@ -73,13 +74,13 @@ module _ (s : Shape) (g : ℕ) (id bs : List ℕ) (hg : g < 16) (ht : length id 
   unfolding pack
   id-of-pack = id-of-packs s g id n (chunk s bs) hg ht bt (length-chunk s bs) (below-chunk s bs bb) (packets-pos s (length bs)) rest
 
-  pub pack-valid : length (pack s g id bs ++ rest) ≤ 16384 → Valid s (pack s g id bs ++ rest) (wordsFor s (length bs))
+  pub pack-valid : length (pack s g id bs ++ rest) ≤ mostWords → Valid s (pack s g id bs ++ rest) (wordsFor s (length bs))
   unfolding pack
   pack-valid = packs-valid s g id n (chunk s bs) hg ht bt (length-chunk s bs) (below-chunk s bs bb) (packets-pos s (length bs)) rest
 
-  pub checked-pack : length (pack s g id bs ++ rest) ≤ 16384
+  pub checked-pack : length (pack s g id bs ++ rest) ≤ mostWords
       → checked s (pack s g id bs ++ rest) (wordsFor s (length bs))
-      ≡ gives (record { group = g; id = id; size = length bs; words = wordsFor s (length bs) })
+      ≡ gives (summary g id (length bs) (wordsFor s (length bs)))
   checked-pack h = checked-valid s _ _ (pack-valid h) ∙ rw (group-of-pack, id-of-pack, payloadOf-pack)
 
 -- ---- the packing of a valid message never needs more words than it has

@@ -10,10 +10,12 @@ use lib.ListN.{length, length-append}
 use borrow.Author.Tests.{le-ltb}
 use Rattle.refusal.specs.Answer.{gives}
 use Rattle.ump.specs.Packet.{joined}
+use Rattle.ump.specs.Limits.{mostBytes}
 use Rattle.ump.specs.Edits.{Edit, Range, Patch, patchAt, Apart, elem, total, allBytes, badEdit, movedPast, moveEdit}
+use Rattle.ump.specs.Partly.{rangeNow, editNow, added, removed, moved, piece}
 use Rattle.ump.proofs.Joined.{joined-add}
 use Rattle.ump.proofs.First.{Side, under, over, side}
-use Rattle.ump.proofs.Replace.{added, removed, moved, piece, length-before, length-mixed, range-forward, range-inside, range-whole, moved-lower, moved-higher, total-zero}
+use Rattle.ump.proofs.Replace.{length-before, length-mixed, range-forward, range-inside, range-whole, moved-lower, moved-higher, total-zero}
 use Rattle.ump.proofs.Signed.{moved-past-is}
 
 pub total-ge : (f : ℕ → ℕ) (n i : ℕ) → i < n → f i ≤ total f n
@@ -27,17 +29,10 @@ total-ge f (suc n) i h = go (side i n) (total-ge f n i)
         let q : n ≡ i = omega arith in
         subst (λ (x : ℕ). f i ≤ total f n + f x) (sym q) (omega arith)
 
-not-bad : (e : Edit) → e .from ≤ e .to → e .to ≤ 53248 → e .length ≤ 53248 → badEdit e ≡ false
-not-bad e a b c = rw (le-ltb (e .to) (e .from) a, le-ltb 53248 (e .to) b, le-ltb 53248 (e .length) c)
+not-bad : (e : Edit) → e .from ≤ e .to → e .to ≤ mostBytes → e .length ≤ mostBytes → badEdit e ≡ false
+not-bad e a b c = rw (le-ltb (e .to) (e .from) a, le-ltb mostBytes (e .to) b, le-ltb mostBytes (e .length) c)
 
--- the range of edit k where ds are done, and the edit with that range
-abbrev pub rangeNow : List Patch → List ℕ → ℕ → Range
-rangeNow es ds k = record { from = moved es ds k (patchAt es k .from); to = moved es ds k (patchAt es k .to) }
-
-abbrev pub editNow : List Patch → List ℕ → ℕ → Edit
-editNow es ds k = record { from = rangeNow es ds k .from; to = rangeNow es ds k .to; length = length (patchAt es k .bytes) }
-
-module _ (p : List ℕ) (es : List Patch) (a : Apart es (length p)) (small : length p + allBytes es ≤ 53248) (ds : List ℕ) where
+module _ (p : List ℕ) (es : List Patch) (a : Apart es (length p)) (small : length p + allBytes es ≤ mostBytes) (ds : List ℕ) where
   abbrev f : ℕ → ℕ
   f i = moved es ds i (patchAt es i .from)
 
@@ -75,7 +70,7 @@ module _ (p : List ℕ) (es : List Patch) (a : Apart es (length p)) (small : len
   move-lower i k h l u v =
       let w = range-whole p es a ds k l v in
       let past : (x : ℕ) → t i ≤ x → movedPast (editNow es ds i) x ≡ x + length (patchAt es i .bytes) - (t i - f i) =
-      λ x b. moved-past-is (editNow es ds i) x (range-forward p es a ds i (omega arith) u) (omega arith)
+      λ x b. moved-past-is (editNow es ds i) x (omega arith)
       in
       let width : t i - f i ≡ patchAt es i .to - patchAt es i .from = omega (arith, range-whole p es a ds i (omega arith) u, a .forward i (omega arith)) in
       rw (

@@ -6,7 +6,7 @@ use lib.Dec.{lit<, lit≤}
 use Rattle.ump.specs.Word.{Below, octets}
 use Rattle.ump.specs.Packet.{sysex8, sizeOf, payloadAt, joined, payload}
 use Rattle.ump.specs.Packing.{statusFor, packetsFor}
-use Rattle.ump.specs.Check.{first, badType, badStatus, badCount, badGroup, badId, checkPackets, check}
+use Rattle.ump.specs.Check.{firstWhere, badType, badStatus, badCount, badGroup, badId, checkPackets, check}
 use Rattle.ump.specs.Edits.{patchAt, endBefore, Apart, total}
 use Rattle.ump.specs.Worker.{Fits}
 use Rattle.ump.specs.Samples.{message5, patches8}
@@ -26,7 +26,7 @@ apart8 =
     }
 
 pub fits8 : Fits sysex8 message5 12 patches8
-unfolding check checkPackets badType badStatus badCount badGroup badId first statusFor payload payloadAt sizeOf octets joined packetsFor total
+unfolding check checkPackets badType badStatus badCount badGroup badId firstWhere statusFor payload payloadAt sizeOf octets joined packetsFor total
 fits8 =
     record {
       passes = refl;

@@ -9,7 +9,8 @@ use Rattle.refusal.proofs.Laws.{number-some, Named, named}
 use Rattle.refusal.proofs.Laws as laws
 use Rattle.ump.specs.Packet.{Shape, sysex7}
 use Rattle.ump.specs.Packing.{wordsFor}
-use Rattle.ump.specs.Check.{first, sweep, statusNumber, badType, badStatus, badCount, badGroup, badId, checkPackets, check, payloadOf}
+use Rattle.ump.specs.Limits.{mostWords}
+use Rattle.ump.specs.Check.{firstWhere, sweep, statusNumber, badType, badStatus, badCount, badGroup, badId, checkPackets, check, payloadOf}
 use Rattle.ump.specs.Splice.{spliced, splice, repack}
 use Rattle.ump.specs.Edits.{Edit, badEdit, moveEdit, replaced, editsOf, patchesOf, badList, someOverlap, allChecks, spliceAll}
 use Rattle.ump.specs.Origin.{origin}
@@ -46,7 +47,7 @@ status-numbered n p = go (eqb n 1) (eqb p 0) (eqb (suc p) n)
     go false false false = lit< tt
 
 by-sweep : (s : Shape) (number : ℕ → ℕ) (bad : ℕ → Bool) (n : ℕ) → ((p : ℕ) → 0 < number p) → Numbered (sweep s number bad n)
-by-sweep s number bad n h = by-guard (ltb (first bad n) n) (number (first bad n)) (s .words * first bad n) (h (first bad n))
+by-sweep s number bad n h = by-guard (ltb (firstWhere bad n) n) (number (firstWhere bad n)) (s .words * firstWhere bad n) (h (firstWhere bad n))
 
 packets-numbered : (s : Shape) (words : List ℕ) (n : ℕ) → Numbered (checkPackets s words n)
 unfolding checkPackets
@@ -59,7 +60,7 @@ packets-numbered s words n =
 check-numbered : (s : Shape) (words : List ℕ) (len : ℕ) → Numbered (check s words len)
 unfolding check
 check-numbered s words len =
-    both _ _ (by-guard (ltb 16384 (length words)) 1 0 (lit< tt))
+    both _ _ (by-guard (ltb mostWords (length words)) 1 0 (lit< tt))
     (both _ _ (by-guard (ltb (length words) len) 2 0 (lit< tt))
     (both _ _ (by-guard (ltb len (s .words)) 3 0 (lit< tt))
     (both _ _ (by-guard (not (eqb (len % s .words) 0)) 4 0 (lit< tt)) (packets-numbered s words (len / s .words)))))
@@ -111,7 +112,7 @@ pub stream-numbered : (bytes : List ℕ) (group : ℕ) (words : List ℕ) → Nu
 unfolding toSysex7
 stream-numbered bytes group words =
     by-writes _ words _ _
-    (both _ _ (by-guard (ltb 16384 (length words)) 1 0 (lit< tt))
+    (both _ _ (by-guard (ltb mostWords (length words)) 1 0 (lit< tt))
     (both _ _ (by-guard (ltb 15 group) 16 0 (lit< tt))
     (both _ _ (by-guard (badFrame bytes) 17 0 (lit< tt))
     (both _ _ (by-guard (ltb (firstBad badByte (between bytes)) (length (between bytes))) 18 (suc (firstBad badByte (between bytes))) (lit< tt))

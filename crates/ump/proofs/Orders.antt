@@ -12,31 +12,13 @@ use Rattle.refusal.specs.Answer.{gives}
 use Rattle.ump.specs.Word.{octets, wordsOf, Below}
 use Rattle.ump.specs.Packet.{sysex8, sizeOf, payloadAt, joined, payload}
 use Rattle.ump.specs.Packing.{statusFor, frame, packsAt, packs, packetsFor, pack}
-use Rattle.ump.specs.Check.{first, badType, badStatus, badCount, badGroup, badId, checkPackets, check}
+use Rattle.ump.specs.Check.{firstWhere, badType, badStatus, badCount, badGroup, badId, checkPackets, check}
 use Rattle.ump.specs.Splice.{Spliced, stored, rewritten, splice}
 use Rattle.ump.specs.Edits.{Edit, Patch, patchAt, endBefore, total, moveEdit}
 use Rattle.ump.specs.Worker.{Calls, Held, finished, Works, rests, goes-on, Fits, bytesOf, start}
-use Rattle.ump.proofs.Meets.{movedEdit}
-use Rattle.ump.proofs.Demand3.{PlainAnswers}
+use Rattle.ump.specs.Meets.{movedEdit, PlainAnswers}
+use Rattle.ump.specs.Orders.{patches, BehindDiffers}
 use Rattle.ump.proofs.NotEmpty.{both}
-
--- 13 bytes in one packet, and four words behind it
-abbrev pub words : List ℕ
-words = 0x500E0001 ∷ 0x02030405 ∷ 0x06070809 ∷ 0x0A0B0C0D ∷ replicate 4 9
-
--- a byte put in before the first, and the last byte taken out
-abbrev pub patches : List Patch
-patches = record { from = 0; to = 0; bytes = 0xEE ∷ [] } ∷ record { from = 12; to = 13; bytes = [] } ∷ []
-
-abbrev pub message : List ℕ
-message = 0x500E00EE ∷ 0x01020304 ∷ 0x05060708 ∷ 0x090A0B0C ∷ []
-
--- By such calls: demand 3 allows the edits; grown first, the message has two packets on the way, and zeros are left of the second; shrunk
--- first, the words behind stay.
-pub record BehindDiffers (calls : Calls (List ℕ) Edit) : Type 0 where
-  pub fits : Fits sysex8 words 4 patches
-  pub grown-first : Works calls (bytesOf patches) (start words 4 patches) (0 ∷ 1 ∷ []) (finished (message ++ replicate 4 0) 4)
-  pub shrunk-first : Works calls (bytesOf patches) (start words 4 patches) (1 ∷ 0 ∷ []) (finished (message ++ replicate 4 9) 4)
 
 -- two edits one after the other, by calls that have the outcomes of the definitions
 in-turn : {calls : Calls (List ℕ) Edit} → PlainAnswers sysex8 calls → {bytes : ℕ → List ℕ} {held : Held (List ℕ) Edit} (i j : ℕ)
@@ -57,7 +39,7 @@ in-turn {calls} answers {held = held} i j {edit = edit} b c e m f =
 
 -- It is so by any calls that have the outcomes of the definitions.
 pub behind-differs : {calls : Calls (List ℕ) Edit} → PlainAnswers sysex8 calls → BehindDiffers calls
-unfolding splice moveEdit rewritten stored check checkPackets badType badStatus badCount badGroup badId first payload payloadAt sizeOf octets pack packs packsAt packetsFor statusFor frame joined wordsOf total
+unfolding splice moveEdit rewritten stored check checkPackets badType badStatus badCount badGroup badId firstWhere payload payloadAt sizeOf octets pack packs packsAt packetsFor statusFor frame joined wordsOf total
 behind-differs answers =
     record {
       fits = record {

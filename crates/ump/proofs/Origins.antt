@@ -18,7 +18,7 @@ use Rattle.ump.specs.Check.{check, payloadOf}
 use Rattle.ump.specs.Splice.{spliced, rewritten, Spliced, splice, repack}
 use Rattle.ump.specs.Edits.{Patch, patchAt, editsFor, endBefore, Apart, replaced, total}
 use Rattle.ump.specs.Origin.{headerOctets, Source, dumpByte, editByte, byteFrom, Origin, headerOctet, carried, filler, zeroed, untouched, originOf, originIn, octetFrom, sameSource, isFrom, isHeader, isFiller, howMany, inRange, Within, Traced}
-use Rattle.ump.specs.Holds.{Fewest}
+use Rattle.ump.specs.Holds.{Fewest, Behind}
 use Rattle.ump.proofs.Splicing.{group-fits, length-id, below-id, below-payload}
 use Rattle.ump.proofs.Words.{below-append, below-take, below-drop, getD-octets, zero-octet}
 use Rattle.ump.proofs.First.{Side, under, over, side}
@@ -29,7 +29,7 @@ use Rattle.ump.proofs.Moving.{total-ge}
 use Rattle.ump.proofs.Counting.{total-split, total-front, total-add, total-const, below, total-below}
 use Rattle.ump.proofs.Demand.{rewritten-is-fewest}
 use Rattle.ump.proofs.Done.{known, packed}
-use Rattle.ump.proofs.Behind.{Behind, rewritten-behind}
+use Rattle.ump.proofs.Behind.{rewritten-behind}
 use Rattle.ump.proofs.Sources.{sources, replaced-from, one, count, dump-once, patch-once}
 use Rattle.ump.proofs.Runs.{begins-at, read-at}
 

@@ -15,6 +15,7 @@ use Rattle.refusal.specs.Answer.{Answer, gives, refused, _▷_, guard, writes}
 use Rattle.ump.specs.Word.{Below}
 use Rattle.ump.specs.Packet.{sysex7}
 use Rattle.ump.specs.Packing.{pack, wordsFor}
+use Rattle.ump.specs.Limits.{mostWords}
 use Rattle.ump.specs.Splice.{spliced}
 use Rattle.ump.specs.Stream.{badFrame, between, realTime, badByte, withoutRealTime, firstBad, toSysex7}
 use Rattle.ump.specs.RealTime.{strictToSysex7, placeMoved, Writer, PassesOver}
@@ -130,7 +131,7 @@ unfoldable outcome : ℕ → ℕ → ℕ → List ℕ → List ℕ → Bool → 
 outcome x y group words bs bad place =
     let needed = wordsFor sysex7 (length bs) in
     writes
-    (guard (ltb 16384 (length words)) 1 0
+    (guard (ltb mostWords (length words)) 1 0
     ▷ guard (ltb 15 group) 16 0
     ▷ guard (not (eqb x 0xF0) || not (eqb y 0xF7)) 17 0
     ▷ guard bad 18 place
@@ -150,7 +151,7 @@ outcome-moves : (x y group : ℕ) (words bs : List ℕ) (bad : Bool) (k n place 
     ≡ (placeMoved k n (outcome x y group words bs bad place .0), outcome x y group words bs bad place .1)
 unfolding outcome
 outcome-moves x y group words bs bad k n place =
-    go (ltb 16384 (length words)) (ltb 15 group) (not (eqb x 0xF0) || not (eqb y 0xF7)) bad (ltb (length words) (wordsFor sysex7 (length bs)))
+    go (ltb mostWords (length words)) (ltb 15 group) (not (eqb x 0xF0) || not (eqb y 0xF7)) bad (ltb (length words) (wordsFor sysex7 (length bs)))
   where
     after : List ℕ
     after = pack sysex7 group [] bs ++ drop (wordsFor sysex7 (length bs)) words

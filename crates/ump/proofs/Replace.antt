@@ -12,40 +12,15 @@ use lib.Seq.{slice, length-slice, take-take, take-at, drop-at}
 use Rattle.ump.specs.Packet.{joined}
 use Rattle.ump.specs.Splice.{spliced}
 use Rattle.ump.specs.Edits.{Patch, patchAt, endBefore, Apart, replaced, elem, total, allBytes, Order}
+use Rattle.ump.specs.Partly.{added, removed, moved, current, gap, piece, mixed}
 use Rattle.ump.proofs.Joined.{joined-cong, joined-around}
 use borrow.Author.Tests.{ne-eqb, eq-eqb, eqb-true}
 use Rattle.ump.proofs.First.{is-false, Side, under, over, side}
-
--- ---- the range of a patch that is to be done, where ds are done, in plain numbers (Signed: it is the old one plus the signed growth)
-
--- bytes put in, and bytes taken out, by those of the patches 0 .. i - 1 that are done
-abbrev pub added : List Patch → List ℕ → ℕ → ℕ
-added es ds i = total (λ j. cond (elem j ds) (length (patchAt es j .bytes)) 0) i
-
-abbrev pub removed : List Patch → List ℕ → ℕ → ℕ
-removed es ds i = total (λ j. cond (elem j ds) (patchAt es j .to - patchAt es j .from) 0) i
-
-abbrev pub moved : List Patch → List ℕ → ℕ → ℕ → ℕ
-moved es ds i x = x + added es ds i - removed es ds i
 
 -- ---- the payload where some are done
 
 pub take-slice : (f t : ℕ) (l : List ℕ) → f ≤ t → take f l ++ slice f t l ≡ take t l
 take-slice f t l h = rw (← (take-take f t l h)) (take-append-drop f (take t l))
-
--- what edit i makes of its gap and its range, where ds are done
-abbrev pub cur : List ℕ → List Patch → List ℕ → ℕ → List ℕ
-cur p es ds i = cond (elem i ds) (patchAt es i .bytes) (slice (patchAt es i .from) (patchAt es i .to) p)
-
-abbrev pub gap : List ℕ → List Patch → ℕ → List ℕ
-gap p es i = slice (endBefore es i) (patchAt es i .from) p
-
-unfoldable pub piece : List ℕ → List Patch → List ℕ → ℕ → List ℕ
-piece p es ds i = gap p es i ++ cur p es ds i
-
--- the payload where the edits ds are done
-unfoldable pub mixed : List ℕ → List Patch → List ℕ → List ℕ
-mixed p es ds = joined (piece p es ds) (length es) ++ drop (endBefore es (length es)) p
 
 pub mixed-all : (p : List ℕ) (es : List Patch) (ds : List ℕ) → ((i : ℕ) → i < length es → elem i ds ≡ true) → mixed p es ds ≡ replaced p es
 unfolding mixed piece replaced
@@ -55,7 +30,7 @@ mixed-all p es ds h =
 
 mixed-around : (p : List ℕ) (es : List Patch) (ds : List ℕ) (i : ℕ) → i < length es
     → mixed p es ds
-    ≡ (joined (piece p es ds) i ++ gap p es i) ++ (cur p es ds i ++ (joined (λ k. piece p es ds (suc i + k)) (length es - suc i) ++ drop (endBefore es (length es)) p))
+    ≡ (joined (piece p es ds) i ++ gap p es i) ++ (current p es ds i ++ (joined (λ k. piece p es ds (suc i + k)) (length es - suc i) ++ drop (endBefore es (length es)) p))
 unfolding mixed piece
 mixed-around p es ds i h = rw (joined-around (piece p es ds) (length es) i h) (simp append-assoc)
 
@@ -101,7 +76,7 @@ module _ (p : List ℕ) (es : List Patch) (a : Apart es (length p)) where
 
   -- how long the part before edit i has become: by what was put in less what was taken out
   length-cur : (ds : List ℕ) (i : ℕ) → i < length es
-      → length (cur p es ds i) + cond (elem i ds) (patchAt es i .to - patchAt es i .from) 0
+      → length (current p es ds i) + cond (elem i ds) (patchAt es i .to - patchAt es i .from) 0
       ≡ (patchAt es i .to - patchAt es i .from) + cond (elem i ds) (length (patchAt es i .bytes)) 0
   length-cur ds i h = go (elem i ds)
     where
@@ -120,8 +95,8 @@ module _ (p : List ℕ) (es : List Patch) (a : Apart es (length p)) where
   length-before ds (suc i) h =
       omega (
         arith,
-        length-append (joined (piece p es ds) i) (gap p es i ++ cur p es ds i),
-        length-append (gap p es i) (cur p es ds i),
+        length-append (joined (piece p es ds) i) (gap p es i ++ current p es ds i),
+        length-append (gap p es i) (current p es ds i),
         length-before ds i (omega arith),
         length-gap i h,
         length-cur ds i h,

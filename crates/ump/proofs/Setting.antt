@@ -14,7 +14,7 @@ use borrow.Author.Tests.{ltb-true, ltb-false, le-ltb, lt-leb}
 use Rattle.refusal.specs.Answer.{gives, Verdict, pass}
 use Rattle.ump.specs.Word.{nibbleField, octetField, shift, part, withPart, nibble, octet}
 use Rattle.ump.specs.Packet.{Shape, sysex8, header, firstWord, groupAt, countAt, idAt, sizeAt, packet, payloadAt, placeWord, placeOctet, byteAt, joined, payload}
-use Rattle.ump.specs.Check.{check, payloadOf, Summary, checked, Valid}
+use Rattle.ump.specs.Check.{check, payloadOf, Summary, summary, checked, Valid}
 use Rattle.ump.specs.Single.{withGroup}
 use Rattle.ump.specs.Setters.{packetOf, byteIn, storeByte, setByte, onHeads, setGroup, withId, setId}
 use Rattle.ump.proofs.Fields.{part-set, part-below, part-past}
@@ -162,7 +162,7 @@ module _ (shape : Shape) (words after : List ℕ) (len : ℕ) (groups : ℕ → 
 
   -- and the check answers that group and that id
   checked-after : checked shape after len
-      ≡ gives (record { group = groups 0; id = ids 0; size = length (payloadOf shape after len); words = len })
+      ≡ gives (summary (groups 0) (ids 0) (length (payloadOf shape after len)) len)
   checked-after =
       let first = headed-at 0 (valid .some-packet) in
       checked-valid shape after len valid-after ∙ rw (first .group-is, first .id-is)
@@ -539,7 +539,7 @@ module _ (shape : Shape) (words after : List ℕ) (len : ℕ) (groups : ℕ → 
     (one-group : (p : ℕ) → p < len / shape .words → groups p ≡ groups 0)
     (one-id : (p : ℕ) → p < len / shape .words → ids p ≡ ids 0) where
   changed-done : Done shape words len (pass, after)
-      (record { group = groups 0; id = ids 0; size = length (payloadOf shape words len); words = len })
+      (summary (groups 0) (ids 0) (length (payloadOf shape words len)) len)
       (payloadOf shape words len)
   changed-done =
       record {
@@ -562,7 +562,7 @@ module _ (shape : Shape) (words : List ℕ) (len : ℕ) (accepted : check shape 
   -- after setting the group of a message: that group, and all else as before
   pub setGroup-done : (group : ℕ) → group < 16
       → Done shape words len (setGroup shape words len group)
-      (record { group = group; id = idAt shape words 0; size = length (payloadOf shape words len); words = len })
+      (summary group (idAt shape words 0) (length (payloadOf shape words len)) len)
       (payloadOf shape words len)
   unfolding setGroup
   setGroup-done group fits =
@@ -575,7 +575,7 @@ module _ (shape : Shape) (words : List ℕ) (len : ℕ) (accepted : check shape 
   -- after setting byte i of a message: that byte, and all else as before
   pub setByte-done : (i value : ℕ) → i < length (payloadOf shape words len) → value < shape .limit
       → Done shape words len (setByte shape words len i value)
-      (record { group = groupAt shape words 0; id = idAt shape words 0; size = length (payloadOf shape words len); words = len })
+      (summary (groupAt shape words 0) (idAt shape words 0) (length (payloadOf shape words len)) len)
       (set (payloadOf shape words len) i value)
   unfolding setByte
   setByte-done i value inside fits =
@@ -598,7 +598,7 @@ module _ (shape : Shape) (words : List ℕ) (len : ℕ) (accepted : check shape 
 -- after setting the stream id of a message: that id, and all else as before
 pub setId-done : (words : List ℕ) (len id : ℕ) → check sysex8 words len ≡ pass → id < 256
     → Done sysex8 words len (setId words len id)
-    (record { group = groupAt sysex8 words 0; id = id ∷ []; size = length (payloadOf sysex8 words len); words = len })
+    (summary (groupAt sysex8 words 0) (id ∷ []) (length (payloadOf sysex8 words len)) len)
     (payloadOf sysex8 words len)
 unfolding setId
 setId-done words len id accepted fits =

@@ -15,7 +15,8 @@ use lib.Dec.{ltb}
 use Rattle.refusal.specs.Answer.{gives, _▷_, guard}
 use Rattle.refusal.proofs.Laws.{never-refused}
 use Rattle.ump.proofs.Checks.{or-left, or-right}
-use Rattle.ump.proofs.Replace.{added, removed, moved, range-whole}
+use Rattle.ump.specs.Partly.{added, removed, moved}
+use Rattle.ump.proofs.Replace.{range-whole}
 
 -- a - b of naturals, as a sum of signed numbers
 pub sub-is : (a b : ℕ) → pos a -ℤ pos b ≡ subℕ a b
@@ -46,19 +47,13 @@ mag-sub a b n h k = rw (sub-is a b) (go (side a b))
     go (under l e) = rw e (omega arith)
     go (over l e) = rw e (omega arith)
 
--- the growth of a range that is not reversed
-pub growth-is : (from to n : ℕ) → from ≤ to → growthBy from to n ≡ pos n -ℤ pos (to - from)
-growth-is from to n h = ap (λ (z : ℤ). pos n -ℤ z) (sub-pos to from h)
-
 -- moving an edit adds the done edit's growth, which does not take a place behind it below zero
-module _ (e : Edit) (x : ℕ) (forward : e .from ≤ e .to) (h : e .to - e .from ≤ x + e .length) where
+module _ (e : Edit) (x : ℕ) (h : e .to - e .from ≤ x + e .length) where
   pub moved-past-is : movedPast e x ≡ x + e .length - (e .to - e .from)
-  moved-past-is = ap asPlace (ap (λ (z : ℤ). pos x +ℤ z) (growth-is (e .from) (e .to) (e .length) forward) ∙ move-pos x (e .length) (e .to - e .from) h)
+  moved-past-is = ap asPlace (move-pos x (e .length) (e .to - e .from) h)
 
   pub moved-by-growth : pos (movedPast e x) ≡ pos x +ℤ growth e
-  moved-by-growth =
-      ap pos moved-past-is
-      ∙ sym (ap (λ (z : ℤ). pos x +ℤ z) (growth-is (e .from) (e .to) (e .length) forward) ∙ move-pos x (e .length) (e .to - e .from) h)
+  moved-by-growth = ap pos moved-past-is ∙ sym (move-pos x (e .length) (e .to - e .from) h)
 
 module _ {range : Range} where
   twice-passed : (a b : Bool) (value : Range) → guard a 13 0 ▷ guard b 20 0 ▷ gives value ≡ gives range → (a ≡ false) × (b ≡ false) × (value ≡ range)
@@ -75,7 +70,7 @@ move-signed done pending range e =
     let forward : done .from ≤ done .to = ltb-false _ _ (or-left _ _ (or-left (badEdit done) (badEdit pending) (o .0))) in
     let onward : pending .from ≤ pending .to = ltb-false _ _ (or-left _ _ (or-right (badEdit done) (badEdit pending) (o .0))) in
     let behind : done .to ≤ pending .from = ltb-false _ _ (o .1) in
-    rw (← (o .2)) (moved-by-growth done (pending .from) forward (omega arith), moved-by-growth done (pending .to) forward (omega arith))
+    rw (← (o .2)) (moved-by-growth done (pending .from) (omega arith), moved-by-growth done (pending .to) (omega arith))
 
 -- and else nothing.
 pub move-keeps : (done pending : Edit) (range : Range) → moveEdit done pending false ≡ gives range → (range .from ≡ pending .from) × (range .to ≡ pending .to)
@@ -86,28 +81,26 @@ move-keeps done pending range e =
 
 -- ---- the range of an edit that is still to be done
 
-module _ (p : List ℕ) (es : List Patch) (a : Apart es (length p)) where
-  grown-is : (ds : List ℕ) (i : ℕ) → i ≤ length es → grown es ds i ≡ pos (added es ds i) -ℤ pos (removed es ds i)
-  unfolding total totalℤ
-  grown-is ds zero h = refl
-  grown-is ds (suc i) h =
-      ap₂ (λ (x y : ℤ). x +ℤ y) (grown-is ds i (omega arith)) (pick (elem i ds))
-      ∙ sub-add (added es ds i) (removed es ds i) _ _
-    where
-      pick : (b : Bool) → cond b (growth (editAt es i)) (pos 0) ≡ pos (cond b (length (patchAt es i .bytes)) 0) -ℤ pos (cond b (patchAt es i .to - patchAt es i .from) 0)
-      pick true = growth-is (patchAt es i .from) (patchAt es i .to) (length (patchAt es i .bytes)) (a .forward i h)
-      pick false = refl
+grown-is : (es : List Patch) (ds : List ℕ) (i : ℕ) → grown es ds i ≡ pos (added es ds i) -ℤ pos (removed es ds i)
+unfolding total totalℤ
+grown-is es ds zero = refl
+grown-is es ds (suc i) =
+    ap₂ (λ (x y : ℤ). x +ℤ y) (grown-is es ds i) (pick (elem i ds)) ∙ sub-add (added es ds i) (removed es ds i) _ _
+  where
+    pick : (b : Bool) → cond b (growth (editAt es i)) (pos 0) ≡ pos (cond b (length (patchAt es i .bytes)) 0) -ℤ pos (cond b (patchAt es i .to - patchAt es i .from) 0)
+    pick true = refl
+    pick false = refl
 
-  -- It is the old one, plus the signed growth of the lower-numbered edits already done.
-  module _ (ds : List ℕ) (i : ℕ) (h : i < length es) (u : elem i ds ≡ false) where
-    signed : (x : ℕ) → patchAt es i .from ≤ x → pos (moved es ds i x) ≡ pos x +ℤ grown es ds i
-    signed x k =
-        sym
-        (ap (λ (z : ℤ). pos x +ℤ z) (grown-is ds i (omega arith))
-        ∙ move-pos x (added es ds i) (removed es ds i) (omega (arith, range-whole p es a ds i h u)))
+-- It is the old one, plus the signed growth of the lower-numbered edits already done.
+module _ (p : List ℕ) (es : List Patch) (a : Apart es (length p)) (ds : List ℕ) (i : ℕ) (h : i < length es) (u : elem i ds ≡ false) where
+  signed : (x : ℕ) → patchAt es i .from ≤ x → pos (moved es ds i x) ≡ pos x +ℤ grown es ds i
+  signed x k =
+      sym
+      (ap (λ (z : ℤ). pos x +ℤ z) (grown-is es ds i)
+      ∙ move-pos x (added es ds i) (removed es ds i) (omega (arith, range-whole p es a ds i h u)))
 
-    pub from-signed : pos (moved es ds i (patchAt es i .from)) ≡ pos (patchAt es i .from) +ℤ grown es ds i
-    from-signed = signed (patchAt es i .from) (omega arith)
+  pub from-signed : pos (moved es ds i (patchAt es i .from)) ≡ pos (patchAt es i .from) +ℤ grown es ds i
+  from-signed = signed (patchAt es i .from) (omega arith)
 
-    pub to-signed : pos (moved es ds i (patchAt es i .to)) ≡ pos (patchAt es i .to) +ℤ grown es ds i
-    to-signed = signed (patchAt es i .to) (a .forward i h)
+  pub to-signed : pos (moved es ds i (patchAt es i .to)) ≡ pos (patchAt es i .to) +ℤ grown es ds i
+  to-signed = signed (patchAt es i .to) (a .forward i h)

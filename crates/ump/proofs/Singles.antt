@@ -8,21 +8,11 @@ use borrow.Author.Tests.{le-ltb, eq-eqb}
 use lib.ListN.{length, getD, drop, length-drop}
 use lib.Seq.{getD-drop}
 use Rattle.refusal.specs.Answer.{gives, pass}
-use Rattle.ump.specs.Packet.{sysex8, groupAt, statusAt, countAt, idAt, sizeAt}
+use Rattle.ump.specs.Packet.{sysex8, statusAt, countAt}
 use Rattle.ump.specs.Check.{badType, badCount, check}
-use Rattle.ump.specs.Single.{Packet, blank, kindFor, readPacket8}
+use Rattle.ump.specs.Single.{packetAt, readPacket8}
 use Rattle.ump.proofs.Sizes.{status-small}
 use Rattle.ump.proofs.Checks.{passes-valid}
-
--- what the single reader says of packet p
-abbrev pub packetAt : List ℕ → ℕ → Packet
-packetAt words p =
-    record {
-      kind = kindFor (statusAt sysex8 words p) (countAt sysex8 words p) (blank (drop (4 * p) words));
-      group = groupAt sysex8 words p;
-      id = idAt sysex8 words p;
-      size = sizeAt sysex8 words p;
-    }
 
 module _ (words : List ℕ) (len : ℕ) (passes : check sysex8 words len ≡ pass) (p : ℕ) (in-message : p < len / 4) where
   pub status-four : statusAt sysex8 words p < 4

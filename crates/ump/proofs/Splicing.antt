@@ -122,7 +122,7 @@ module _ (s : Shape) (g : ℕ) (id bs : List ℕ) (size : ℕ) (ws : List ℕ) (
   module _ (from to : ℕ) (r : List ℕ) (ft : from ≤ to) (tl : to ≤ length bs) (br : Below (s .limit) r)
       (room : wordsFor s (length (spliced bs from to r)) ≤ size) where
     pub splice-done : splice s ws len from to r
-        ≡ (gives (record { length = wordsFor s (length (spliced bs from to r)); growth = growthBy from to (length r) }), rewritten s ws len (spliced bs from to r))
+        ≡ (gives (record { length = wordsFor s (length (spliced bs from to r)); growth = growthBy (length r) (to - from) }), rewritten s ws len (spliced bs from to r))
     unfolding splice
     splice-done =
         rw (
@@ -141,7 +141,7 @@ module _ (s : Shape) (g : ℕ) (id bs : List ℕ) (size : ℕ) (ws : List ℕ) (
     splice-packs =
         rw splice-done
         (record {
-          grew = growthBy from to (length r);
+          grew = growthBy (length r) (to - from);
           accepted = refl;
           holds = rewritten-holds s g id bs size ws len h (spliced bs from to r) below-new room;
           fewest = rewritten-fewest s g id bs size ws len h (spliced bs from to r) below-new room;

@@ -13,20 +13,22 @@ use Rattle.refusal.specs.Answer.{Answer, gives, refused}
 use Rattle.ump.specs.Word.{Below}
 use Rattle.ump.specs.Packet.{Shape}
 use Rattle.ump.specs.Packing.{wordsFor}
+use Rattle.ump.specs.Limits.{mostBytes}
 use Rattle.ump.specs.Check.{payloadOf}
 use Rattle.ump.specs.Splice.{spliced, Spliced, splice}
 use Rattle.ump.specs.Edits.{Edit, Patch, patchAt, Apart, allBytes, elem, movedPast, Order}
-use Rattle.ump.specs.Holds.{Holds, Fewest}
+use Rattle.ump.specs.Holds.{Holds, Fewest, Behind}
 use Rattle.ump.specs.Worker.{Calls, Held, End, finished, stopped, Works, rests, goes-on, splice-refused, move-refused, Finishes, bytesOf, AllInPlace, Placed, reached}
-use Rattle.ump.proofs.Meets.{movedEdit, View, Ready, Meets, CanSplice, CanMove, Answers}
+use Rattle.ump.specs.Meets.{movedEdit, View, Ready, Meets, CanSplice, CanMove, Answers}
 use Rattle.ump.proofs.First.{is-false}
 use Rattle.ump.proofs.Sizes.{words-mono}
-use Rattle.ump.proofs.Replace.{moved, or-right-true, mixed, length-mixed, range-forward, range-inside, range-whole, step, after, elem-same, fresh}
+use Rattle.ump.specs.Partly.{moved, mixed, editNow}
+use Rattle.ump.proofs.Replace.{or-right-true, length-mixed, range-forward, range-inside, range-whole, step, after, elem-same, fresh}
 use Rattle.ump.proofs.Splicing.{Packed, splice-packs, length-spliced}
 use Rattle.ump.proofs.Signed.{moved-past-is, from-signed, to-signed}
-use Rattle.ump.proofs.Moving.{editNow, move-past}
+use Rattle.ump.proofs.Moving.{move-past}
 use Rattle.ump.proofs.Done.{known}
-use Rattle.ump.proofs.Behind.{Behind, rewritten-behind, behind-none, behind-both}
+use Rattle.ump.proofs.Behind.{rewritten-behind, behind-none, behind-both}
 
 -- ---- orders
 
@@ -74,7 +76,7 @@ least-reached (move-refused s k e m) = omega arith
 module _ {Lent Record : Type 0} (s : Shape) (view : View Lent Record) (calls : Calls Lent Record)
     (g : ℕ) (id p : List ℕ) (size : ℕ) (es : List Patch) (a : Apart es (length p))
     (bn : (i : ℕ) → i < length es → Below (s .limit) (patchAt es i .bytes)) (room : wordsFor s (length p + allBytes es) ≤ size)
-    (small : length p + allBytes es ≤ 53248) (meets : Meets s (length p + allBytes es) view calls) where
+    (small : length p + allBytes es ≤ mostBytes) (meets : Meets s (length p + allBytes es) view calls) where
   -- where ds are done and these are left, in this order
   pub record At (ds order : List ℕ) (held : Held Lent Record) : Type 0 where
     pub holds : Holds s g id (mixed p es ds) size (view .wordsOf (held .lent)) (held .length)
@@ -176,7 +178,7 @@ module _ {Lent Record : Type 0} (s : Shape) (view : View Lent Record) (calls : C
           let l = at .each .0 in
           let forward : from ≤ to = range-forward p es a ds i l fresh-i in
           let inside : to ≤ length (mixed p es ds) = range-inside p es a ds i l fresh-i in
-          rw (is-i, moved-past-is (editNow es ds i) (length (mixed p es ds)) forward (omega arith), ← stepped)
+          rw (is-i, moved-past-is (editNow es ds i) (length (mixed p es ds)) (omega arith), ← stepped)
           (omega (arith, length-spliced (mixed p es ds) from to (patchAt es i .bytes) forward inside))
 
       size-fits : movedPast (view .editOf (held .edit i)) (length (mixed p es ds)) ≤ length p + allBytes es

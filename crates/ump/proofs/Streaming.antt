@@ -13,7 +13,8 @@ use Rattle.refusal.proofs.Laws.{never-refused}
 use Rattle.ump.specs.Word.{Below}
 use Rattle.ump.specs.Packet.{sysex7}
 use Rattle.ump.specs.Packing.{pack, wordsFor}
-use Rattle.ump.specs.Check.{payloadOf, checked}
+use Rattle.ump.specs.Limits.{mostWords}
+use Rattle.ump.specs.Check.{payloadOf, summary, checked}
 use Rattle.ump.specs.Stream.{badFrame, between, badByte, withoutRealTime, firstBad, dataOf, toSysex7}
 use Rattle.ump.proofs.Without.{data-below}
 use Rattle.ump.proofs.First.{first-before}
@@ -30,11 +31,11 @@ needed bytes = wordsFor sysex7 (length (dataOf bytes))
 -- ---- the cases, each after those before it did not hold
 
 module _ (bytes : List ℕ) (group : ℕ) (words : List ℕ) where
-  pub stream-long : 16384 < length words → toSysex7 bytes group words ≡ (refused 1 0, words)
+  pub stream-long : mostWords < length words → toSysex7 bytes group words ≡ (refused 1 0, words)
   unfolding toSysex7
   stream-long h = rw (lt-ltb _ _ h)
 
-  module _ (few : length words ≤ 16384) where
+  module _ (few : length words ≤ mostWords) where
     pub stream-field : 15 < group → toSysex7 bytes group words ≡ (refused 16 0, words)
     unfolding toSysex7
     stream-field h = rw (le-ltb _ _ few, lt-ltb _ _ h)
@@ -62,7 +63,7 @@ module _ (bytes : List ℕ) (group : ℕ) (words : List ℕ) where
 -- ---- what an accepted stream tells
 
 pub record Accepted (bytes : List ℕ) (group : ℕ) (words : List ℕ) (n : ℕ) : Type 0 where
-  pub few : length words ≤ 16384
+  pub few : length words ≤ mostWords
   pub small : group ≤ 15
   pub framed : badFrame bytes ≡ false
   pub septets : length (between bytes) ≤ badAt bytes
@@ -73,7 +74,7 @@ pub stream-tells : (bytes : List ℕ) (group : ℕ) (words : List ℕ) (n : ℕ)
 unfolding toSysex7
 stream-tells bytes group words n e = go _ _ _ _ _ _ refl refl refl refl refl e
   where
-    go : (after : List ℕ) (a b c d f : Bool) → ltb 16384 (length words) ≡ a → ltb 15 group ≡ b → badFrame bytes ≡ c → ltb (badAt bytes) (length (between bytes)) ≡ d → ltb (length words) (needed bytes) ≡ f
+    go : (after : List ℕ) (a b c d f : Bool) → ltb mostWords (length words) ≡ a → ltb 15 group ≡ b → badFrame bytes ≡ c → ltb (badAt bytes) (length (between bytes)) ≡ d → ltb (length words) (needed bytes) ≡ f
         → writes (guard a 1 0 ▷ guard b 16 0 ▷ guard c 17 0 ▷ guard d 18 (suc (badAt bytes)) ▷ guard f 14 0) words (needed bytes) after .0 ≡ gives n
         → Accepted bytes group words n
     go after true b c d f ea eb ec ed ef x = never-refused x
@@ -97,8 +98,8 @@ septets-below bytes h =
 pub record Streamed (bytes : List ℕ) (group : ℕ) (words : List ℕ) (n : ℕ) (after : List ℕ) : Type 0 where
   pub fewest : take n after ≡ pack sysex7 group [] (dataOf bytes)
   pub stays : drop n after ≡ drop n words
-  pub checks : (rest : List ℕ) → length (take n after ++ rest) ≤ 16384
-      → checked sysex7 (take n after ++ rest) n ≡ gives (record { group = group; id = []; size = length (dataOf bytes); words = n })
+  pub checks : (rest : List ℕ) → length (take n after ++ rest) ≤ mostWords
+      → checked sysex7 (take n after ++ rest) n ≡ gives (summary group [] (length (dataOf bytes)) n)
   pub carries : (rest : List ℕ) → payloadOf sysex7 (take n after ++ rest) n ≡ dataOf bytes
 
 -- as many words are lent after as before
@@ -129,12 +130,12 @@ stream-valid bytes group words n e =
 
 -- the words lent as a whole
 pub stream-carries : (bytes : List ℕ) (group : ℕ) (words : List ℕ) (n : ℕ) (left : List ℕ) → (gives n, left) ≡ toSysex7 bytes group words
-    → (checked sysex7 left n ≡ gives (record { group = group; id = []; size = length (dataOf bytes); words = n })) × (payloadOf sysex7 left n ≡ dataOf bytes)
+    → (checked sysex7 left n ≡ gives (summary group [] (length (dataOf bytes)) n)) × (payloadOf sysex7 left n ≡ dataOf bytes)
 stream-carries bytes group words n left e =
     let g : toSysex7 bytes group words .0 ≡ gives n = sym (ap (λ o. o .0) e) in
     let a = stream-tells bytes group words n g in
     let s : Streamed bytes group words n left = rw (← (ap (λ o. o .1) e)) at (stream-valid bytes group words n g) in
     let h : n ≤ length words = omega (arith, a .room, a .written) in
-    let l : length left ≤ 16384 = omega (arith, streamed-length bytes group words n left s (a .written) h, a .few) in
+    let l : length left ≤ mostWords = omega (arith, streamed-length bytes group words n left s (a .written) h, a .few) in
     let t : take n left ++ drop n left ≡ left = take-append-drop n left in
     (rw t at (s .checks (drop n left) (rw t l)), rw t at (s .carries (drop n left)))

@@ -9,11 +9,12 @@ use lib.ListN.{length}
 use Rattle.refusal.specs.Answer.{Answer, gives, Verdict, _▷_, guard}
 use Rattle.ump.specs.Packet.{Shape, typeAt, groupAt, statusAt, countAt, idAt, payload}
 use Rattle.ump.specs.Packing.{byPlace, statusFor}
+use Rattle.ump.specs.Limits.{mostWords}
 
 -- the least index below n at which a test holds; n where there is none
-unfoldable pub first : (ℕ → Bool) → ℕ → ℕ
-first test zero = zero
-first test (suc n) = let r = first test n in cond (ltb r n) r (cond (test n) n (suc n))
+unfoldable pub firstWhere : (ℕ → Bool) → ℕ → ℕ
+firstWhere test zero = zero
+firstWhere test (suc n) = let r = firstWhere test n in cond (ltb r n) r (cond (test n) n (suc n))
 
 -- ---- the packets at fault
 
@@ -47,7 +48,7 @@ statusNumber n p = byPlace 6 7 8 9 n p
 
 -- over n packets: the first that is bad is refused at its word index, with a number that may go by the packet
 abbrev pub sweep : Shape → (ℕ → ℕ) → (ℕ → Bool) → ℕ → Verdict
-sweep shape number bad n = guard (ltb (first bad n) n) (number (first bad n)) (shape .words * first bad n)
+sweep shape number bad n = guard (ltb (firstWhere bad n) n) (number (firstWhere bad n)) (shape .words * firstWhere bad n)
 
 -- Type; Complete, Begin, Continue and End in one walk; Count; Group; Stream
 unfoldable pub checkPackets : Shape → List ℕ → ℕ → Verdict
@@ -61,7 +62,7 @@ checkPackets shape words n =
 -- Long, Length, Short, Ragged, and then the packets of the message in the first len words
 unfoldable pub check : Shape → List ℕ → ℕ → Verdict
 check shape words len =
-    guard (ltb 16384 (length words)) 1 0
+    guard (ltb mostWords (length words)) 1 0
     ▷ guard (ltb (length words) len) 2 0
     ▷ guard (ltb len (shape .words)) 3 0
     ▷ guard (not (eqb (len % shape .words) 0)) 4 0
@@ -78,21 +79,17 @@ pub record Summary : Type 0 where
   pub size : ℕ
   pub words : ℕ
 
+abbrev pub summary : ℕ → List ℕ → ℕ → ℕ → Summary
+summary group id size words = record { group = group; id = id; size = size; words = words }
+
 unfoldable pub checked : Shape → List ℕ → ℕ → Answer Summary
 checked shape words len =
-    check shape words len
-    ▷ gives
-    (record {
-      group = groupAt shape words 0;
-      id = idAt shape words 0;
-      size = length (payloadOf shape words len);
-      words = len;
-    })
+    check shape words len ▷ gives (summary (groupAt shape words 0) (idAt shape words 0) (length (payloadOf shape words len)) len)
 
 -- ---- a valid message: one complete packet, or start, any number of continue, end; all of one type, group and stream id
 
 pub record Valid (shape : Shape) (words : List ℕ) (len : ℕ) : Type 0 where
-  pub short-enough : length words ≤ 16384
+  pub short-enough : length words ≤ mostWords
   pub inside : len ≤ length words
   pub packets : ℕ
   pub some-packet : 0 < packets

@@ -8,7 +8,7 @@ use Rattle.refusal.specs.Answer.{Answer, gives, refused}
 use Rattle.ump.specs.Word.{wordsOf}
 use Rattle.ump.specs.Packet.{joined}
 use Rattle.ump.specs.Packing.{statusFor, frame, packsAt, packs, packetsFor, pack}
-use Rattle.ump.specs.Check.{first}
+use Rattle.ump.specs.Check.{firstWhere}
 use Rattle.ump.specs.Stream.{toSysex7}
 use Rattle.ump.specs.RealTime.{strictToSysex7}
 
@@ -46,7 +46,7 @@ pub record Clock : Type 0 where
   pub strict : strictToSysex7 (0xF0 ∷ 1 ∷ 0xF8 ∷ 2 ∷ 0xF7 ∷ []) 0 (replicate 2 9) ≡ (refused 18 2, replicate 2 9)
 
 pub clock : Clock
-unfolding toSysex7 strictToSysex7 first pack packs packsAt packetsFor statusFor frame joined wordsOf
+unfolding toSysex7 strictToSysex7 firstWhere pack packs packsAt packetsFor statusFor frame joined wordsOf
 clock = record {
   passed-over = refl;
   no-data = refl;

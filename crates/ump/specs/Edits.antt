@@ -2,14 +2,15 @@
 -- Assumes nothing.
 use mathlib.Core.Bool.{Bool, false, not, cond, _||_}
 use mathlib.Core.List.{List, [], _∷_, _++_}
-use Prim.Native.Nat.{ℕ, zero, suc, _+_, _*_, _/_, _%_, _≤_, _<_}
+use Prim.Native.Nat.{ℕ, zero, suc, _+_, _-_, _*_, _/_, _%_, _≤_, _<_}
 use lib.Dec.{T, eqb, ltb}
-use lib.IntN.{ℤ, pos, negsuc, _+ℤ_, _-ℤ_}
+use lib.IntN.{ℤ, pos, negsuc, _+ℤ_}
 use lib.ListN.{length, getD, take, drop}
 use lib.Seq.{slice}
 use Rattle.refusal.specs.Answer.{Answer, gives, Verdict, _▷_, guard, writes}
 use Rattle.ump.specs.Packet.{Shape, joined}
 use Rattle.ump.specs.Packing.{wordsFor}
+use Rattle.ump.specs.Limits.{mostBytes}
 use Rattle.ump.specs.Check.{check, payloadOf}
 use Rattle.ump.specs.Splice.{growthBy, Spliced, rewritten}
 
@@ -24,13 +25,13 @@ pub record Range : Type 0 where
   pub to : ℕ
 
 abbrev pub growth : Edit → ℤ
-growth edit = growthBy (edit .from) (edit .to) (edit .length)
+growth edit = growthBy (edit .length) (edit .to - edit .from)
 
 -- ---- moving an edit (01, module 8)
 
--- reversed, or a number above 53,248
+-- reversed, or a number above the most bytes
 abbrev pub badEdit : Edit → Bool
-badEdit edit = ltb (edit .to) (edit .from) || (ltb 53248 (edit .to) || ltb 53248 (edit .length))
+badEdit edit = ltb (edit .to) (edit .from) || (ltb mostBytes (edit .to) || ltb mostBytes (edit .length))
 
 -- a signed number as a place (none is below zero)
 abbrev pub asPlace : ℤ → ℕ
@@ -155,7 +156,7 @@ spliceAll shape words len numbers bytes =
     let old = payloadOf shape words len in
     let new = replaced old (patchesOf (editsOf numbers) bytes) in
     writes (allChecks shape words len numbers bytes) words
-    (record { length = wordsFor shape (length new); growth = pos (length new) -ℤ pos (length old) })
+    (record { length = wordsFor shape (length new); growth = growthBy (length new) (length old) })
     (rewritten shape words len new)
 
 -- ---- one after the other, in any order

@@ -1,9 +1,11 @@
--- A message in words that are lent: what it carries, and that it is the fewest-packet form.
+-- A message in words that are lent: what it carries, that it is the fewest-packet form, and what stands behind it after edits.
 -- Assumes nothing.
 use mathlib.Core.Path.{_≡_}
+use mathlib.Core.Bool.{cond}
 use mathlib.Core.List.{List}
-use Prim.Native.Nat.{ℕ}
-use lib.ListN.{length, take}
+use Prim.Native.Nat.{ℕ, _≤_}
+use lib.Dec.{ltb}
+use lib.ListN.{length, getD, take}
 use Rattle.ump.specs.Packet.{Shape, groupAt, idAt}
 use Rattle.ump.specs.Packing.{wordsFor, pack}
 use Rattle.ump.specs.Check.{Valid, payloadOf}
@@ -21,3 +23,8 @@ pub record Fewest (shape : Shape) (group : ℕ) (id bytes : List ℕ) (lent : �
   pub length-is : len ≡ wordsFor shape (length bytes)
   pub packed : take len words ≡ pack shape group id bytes
   pub holds : Holds shape group id bytes lent words len
+
+-- These words are now `left`, with a message of `new` words; the longest that stood there had `most`. Behind it stand zeros as far as that
+-- reached, else the words as they were.
+pub record Behind (words : List ℕ) (most : ℕ) (left : List ℕ) (new : ℕ) : Type 0 where
+  pub word : (i : ℕ) → new ≤ i → getD left i 0 ≡ cond (ltb i most) 0 (getD words i 0)

@@ -2,12 +2,14 @@
 pub mod Word
 pub mod Packet
 pub mod Packing
+pub mod Limits
 pub mod Check
 pub mod Single
 pub mod Reader
 pub mod Setters
 pub mod Splice
 pub mod Edits
+pub mod Partly
 pub mod Holds
 pub mod Stream
 pub mod RealTime
@@ -17,4 +19,6 @@ pub mod Runs
 pub mod Origin
 pub mod Traces
 pub mod Worker
+pub mod Meets
+pub mod Orders
 pub mod Demand

@@ -9,7 +9,7 @@ use lib.ListN.{length}
 use Rattle.refusal.specs.Answer.{Answer, gives, refused}
 use Rattle.ump.specs.Word.{Below}
 use Rattle.ump.specs.Packet.{sysex7}
-use Rattle.ump.specs.Check.{payloadOf, checked}
+use Rattle.ump.specs.Check.{payloadOf, summary, checked}
 use Rattle.ump.specs.Splice.{spliced}
 use Rattle.ump.specs.Stream.{between, realTime, withoutRealTime, dataOf, toPackets, toSysex7}
 
@@ -33,7 +33,7 @@ pub record PassesOver (Writes : Writer) : Type 0 where
       → Writes bytes group words (gives n) left
   -- what an accepted stream leaves is a valid message of its group that carries the data, and nothing else
   pub carried : (bytes : List ℕ) (group : ℕ) (words : List ℕ) (n : ℕ) (left : List ℕ) → Writes bytes group words (gives n) left
-      → (checked sysex7 left n ≡ gives (record { group = group; id = []; size = length (dataOf bytes); words = n }))
+      → (checked sysex7 left n ≡ gives (summary group [] (length (dataOf bytes)) n))
       × (payloadOf sysex7 left n ≡ dataOf bytes)
   -- without real-time bytes it answers and leaves what the rule of 01 says
   pub as-before : (bytes : List ℕ) (group : ℕ) (words : List ℕ) (answer : Answer ℕ) (left : List ℕ) → Below 0xF8 (between bytes)

@@ -10,8 +10,8 @@ use Rattle.refusal.specs.Answer.{Answer, gives, refused}
 use Rattle.ump.specs.Word.{octets, wordsOf}
 use Rattle.ump.specs.Packet.{sysex8, sysex7, sizeOf, payloadAt, joined, payload}
 use Rattle.ump.specs.Packing.{statusFor, frame, packsAt, packs, packetsFor, pack}
-use Rattle.ump.specs.Check.{first, badType, badStatus, badCount, badGroup, badId, statusNumber, checkPackets, check, payloadOf, Summary, checked}
-use Rattle.ump.specs.Single.{Packet, Kind, complete, end, unexpectedEnd, blank, readPacket8, readPacket7}
+use Rattle.ump.specs.Check.{firstWhere, badType, badStatus, badCount, badGroup, badId, statusNumber, checkPackets, check, payloadOf, Summary, summary, checked}
+use Rattle.ump.specs.Single.{Packet, singlePacket, Kind, complete, end, unexpectedEnd, blank, readPacket8, readPacket7}
 use Rattle.ump.specs.Splice.{Spliced, stored, rewritten, repack, splice}
 use Rattle.ump.specs.Edits.{Edit, Range, Patch, patchAt, moveEdit}
 use Rattle.ump.specs.Stream.{toSysex7}
@@ -65,10 +65,10 @@ abbrev down5 : List Patch → Answer Spliced × List ℕ
 down5 patches = inTurn message5 12 (patchAt patches 1) (patchAt patches 0) false
 
 abbrev message : ℕ → List ℕ → ℕ → ℕ → Answer Summary
-message group id size words = gives (record { group = group; id = id; size = size; words = words })
+message group id size words = gives (summary group id size words)
 
 abbrev single : Kind → ℕ → List ℕ → ℕ → Answer Packet
-single kind group id size = gives (record { kind = kind; group = group; id = id; size = size })
+single kind group id size = gives (singlePacket kind group id size)
 
 abbrev done : ℕ → ℤ → Answer Spliced
 done length growth = gives (record { length = length; growth = growth })
@@ -98,7 +98,7 @@ pub record Samples : Type 0 where
       ≡ (gives 4, 0x30160102 ∷ 0x03040506 ∷ 0x30310700 ∷ 0 ∷ 9 ∷ [])
 
 pub samples : Samples
-unfolding toSysex7 readPacket8 readPacket7 blank moveEdit splice repack rewritten stored checked check checkPackets badType badStatus badCount badGroup badId statusNumber first payload payloadAt sizeOf octets pack packs packsAt packetsFor statusFor frame joined wordsOf
+unfolding toSysex7 readPacket8 readPacket7 blank moveEdit splice repack rewritten stored checked check checkPackets badType badStatus badCount badGroup badId statusNumber firstWhere payload payloadAt sizeOf octets pack packs packsAt packetsFor statusFor frame joined wordsOf
 samples = record {
   P1 = refl;
   P2 = (refl, refl);

@@ -7,7 +7,7 @@ use lib.ListN.{length, getD, drop, set}
 use Rattle.refusal.specs.Answer.{Answer, gives, Verdict, _▷_, guard, writes}
 use Rattle.ump.specs.Word.{octetField, shift, withPart}
 use Rattle.ump.specs.Packet.{Shape, sysex8, firstWord, placeWord, placeOctet, payload}
-use Rattle.ump.specs.Check.{first, check, payloadOf}
+use Rattle.ump.specs.Check.{firstWhere, check, payloadOf}
 use Rattle.ump.specs.Single.{withGroup}
 
 -- ---- payload bytes
@@ -28,7 +28,7 @@ copyPayload shape words len bytes =
 
 -- the packet, of n, that holds byte i: the first whose bytes, with all before it, are more than i; and the byte's number in it
 unfoldable pub packetOf : Shape → List ℕ → ℕ → ℕ → ℕ
-packetOf shape words n i = first (λ p. ltb i (length (payload shape words (suc p)))) n
+packetOf shape words n i = firstWhere (λ p. ltb i (length (payload shape words (suc p)))) n
 
 unfoldable pub byteIn : Shape → List ℕ → ℕ → ℕ → ℕ
 byteIn shape words n i = i - length (payload shape words (packetOf shape words n i))

@@ -2,7 +2,7 @@
 -- Assumes nothing.
 use mathlib.Core.Bool.{Bool, true, not, cond, _&&_, _||_}
 use mathlib.Core.List.{List, [], _∷_}
-use Prim.Native.Nat.{ℕ, zero, suc}
+use Prim.Native.Nat.{ℕ, zero, suc, _*_}
 use lib.Dec.{eqb, ltb, leb}
 use lib.ListN.{length, getD, drop, set}
 use Rattle.refusal.specs.Answer.{Answer, gives, refused, Verdict, _▷_, guard, verdict, writes}
@@ -31,6 +31,9 @@ pub record Packet : Type 0 where
   pub id : List ℕ
   pub size : ℕ
 
+abbrev pub singlePacket : Kind → ℕ → List ℕ → ℕ → Packet
+singlePacket kind group id size = record { kind = kind; group = group; id = id; size = size }
+
 abbrev pub zeros : List ℕ → Bool
 zeros [] = true
 zeros (x ∷ xs) = eqb x 0 && zeros xs
@@ -56,12 +59,7 @@ readPacket8 words =
     ▷ guard (ltb 3 status) 15 0
     ▷ guard (badCount sysex8 words 0 && not (unexpected status count (blank words))) 10 0
     ▷ gives
-    (record {
-      kind = kindFor status count (blank words);
-      group = groupAt sysex8 words 0;
-      id = idAt sysex8 words 0;
-      size = sizeAt sysex8 words 0;
-    })
+    (singlePacket (kindFor status count (blank words)) (groupAt sysex8 words 0) (idAt sysex8 words 0) (sizeAt sysex8 words 0))
 
 -- Short, Type, Count, Status
 unfoldable pub readPacket7 : List ℕ → Answer Packet
@@ -71,12 +69,15 @@ readPacket7 words =
     ▷ guard (badCount sysex7 words 0) 10 0
     ▷ guard (ltb 3 (statusAt sysex7 words 0)) 15 0
     ▷ gives
-    (record {
-      kind = kindOf (statusAt sysex7 words 0);
-      group = groupAt sysex7 words 0;
-      id = idAt sysex7 words 0;
-      size = sizeAt sysex7 words 0;
-    })
+    (singlePacket (kindOf (statusAt sysex7 words 0)) (groupAt sysex7 words 0) (idAt sysex7 words 0) (sizeAt sysex7 words 0))
+
+-- what the SysEx8 reader says of packet p of a valid message
+abbrev pub packetAt : List ℕ → ℕ → Packet
+packetAt words p =
+    singlePacket (kindFor (statusAt sysex8 words p) (countAt sysex8 words p) (blank (drop (sysex8 .words * p) words)))
+    (groupAt sysex8 words p)
+    (idAt sysex8 words p)
+    (sizeAt sysex8 words p)
 
 -- payload byte i of a packet that was read: the reader's refusals, then Range
 unfoldable pub packetByte : Shape → Answer Packet → List ℕ → ℕ → Answer ℕ

@@ -33,8 +33,8 @@ repack shape words len =
     (rewritten shape words len bytes)
 
 -- growth, replacement length minus range length, may be below zero
-abbrev pub growthBy : ℕ → ℕ → ℕ → ℤ
-growthBy from to length = pos length -ℤ (pos to -ℤ pos from)
+abbrev pub growthBy : ℕ → ℕ → ℤ
+growthBy replacement range = pos replacement -ℤ pos range
 
 -- what a splice answers: the new length in words, and the growth
 pub record Spliced : Type 0 where
@@ -52,7 +52,7 @@ splice shape words len from to replacement =
     ▷ guard (ltb len (wordsFor shape (length bytes))) 19 0
     ▷ guard (ltb (length words) (wordsFor shape (length new))) 14 0)
     words
-    (record { length = wordsFor shape (length new); growth = growthBy from to (length replacement) })
+    (record { length = wordsFor shape (length new); growth = growthBy (length replacement) (to - from) })
     (rewritten shape words len new)
 
 -- setting the payload is a splice of the whole

@@ -8,7 +8,8 @@ use lib.ListN.{length, getD, take, drop}
 use Rattle.refusal.specs.Answer.{Answer, _▷_, guard, writes}
 use Rattle.ump.specs.Packet.{sysex7}
 use Rattle.ump.specs.Packing.{pack, wordsFor}
-use Rattle.ump.specs.Check.{first}
+use Rattle.ump.specs.Limits.{mostWords}
+use Rattle.ump.specs.Check.{firstWhere}
 
 -- under 2 bytes, first not F0 or last not F7
 abbrev pub badFrame : List ℕ → Bool
@@ -33,7 +34,7 @@ withoutRealTime (byte ∷ bytes) = cond (realTime byte) (withoutRealTime bytes) 
 
 -- the index of the first bad byte; their number where there is none
 abbrev pub firstBad : (ℕ → Bool) → List ℕ → ℕ
-firstBad bad bytes = first (λ i. bad (getD bytes i 0)) (length bytes)
+firstBad bad bytes = firstWhere (λ i. bad (getD bytes i 0)) (length bytes)
 
 -- the data of a stream
 abbrev pub dataOf : List ℕ → List ℕ
@@ -47,7 +48,7 @@ toPackets bad taken bytes group words =
     let at = firstBad bad inner in
     let needed = wordsFor sysex7 (length (taken bytes)) in
     writes
-    (guard (ltb 16384 (length words)) 1 0
+    (guard (ltb mostWords (length words)) 1 0
     ▷ guard (ltb 15 group) 16 0
     ▷ guard (badFrame bytes) 17 0
     ▷ guard (ltb at (length inner)) 18 (suc at)

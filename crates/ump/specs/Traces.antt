@@ -8,7 +8,7 @@ use Rattle.refusal.specs.Answer.{Answer, gives, refused}
 use Rattle.ump.specs.Word.{octets}
 use Rattle.ump.specs.Packet.{sysex8, sizeOf, payloadAt, joined, payload}
 use Rattle.ump.specs.Packing.{statusFor, packetsFor}
-use Rattle.ump.specs.Check.{first, badType, badStatus, badCount, badGroup, badId, checkPackets, check}
+use Rattle.ump.specs.Check.{firstWhere, badType, badStatus, badCount, badGroup, badId, checkPackets, check}
 use Rattle.ump.specs.Edits.{Edit, editsFor, editsFrom, replaced}
 use Rattle.ump.specs.Runs.{runFrom}
 use Rattle.ump.specs.Origin.{Origin, headerOctet, carried, dumpByte, editByte, filler, zeroed, untouched, originOf, originIn, origin}
@@ -52,5 +52,5 @@ pub record Traces : Type 0 where
       × (origin sysex8 message2 4 (1 ∷ 1 ∷ 13 ∷ []) bytes6 0 ≡ refused 14 0)
 
 pub traces : Traces
-unfolding origin originIn originOf runFrom replaced editsFrom check checkPackets badType badStatus badCount badGroup badId first payload payloadAt sizeOf octets packetsFor statusFor joined
+unfolding origin originIn originOf runFrom replaced editsFrom check checkPackets badType badStatus badCount badGroup badId firstWhere payload payloadAt sizeOf octets packetsFor statusFor joined
 traces = record { P5 = refl; P6 = refl; P8 = refl; asks = (refl, refl, refl, refl, refl, refl) }

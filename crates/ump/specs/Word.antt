@@ -1,7 +1,8 @@
 -- Words of 32 bits: their fields and octets. Field 0, nibble 0 and octet 0 are the most significant.
 -- Assumes nothing.
+use mathlib.Core.Logic.{_⊎_}
 use mathlib.Core.List.{List, [], _∷_}
-use Prim.Native.Nat.{ℕ, _+_, _-_, _*_, _/_, _%_, _^_, _<_}
+use Prim.Native.Nat.{ℕ, _+_, _-_, _*_, _/_, _%_, _^_, _≤_, _<_}
 use lib.Dec.{leb}
 use Rattle.refusal.specs.Answer.{Answer, gives, _▷_, guard}
 
@@ -52,6 +53,10 @@ setField field x i value =
     guard (leb (field .count) i) 16 0
     ▷ guard (leb (2 ^ field .width) value) 16 0
     ▷ gives (withPart x (shift field i) (field .width) value)
+
+-- field i of one kind and field j of another share no bit
+abbrev pub Disjoint : Field → ℕ → Field → ℕ → Type 0
+Disjoint field i other j = (shift other j + other .width ≤ shift field i) ⊎ (shift field i + field .width ≤ shift other j)
 
 -- ---- nibbles and octets
 

@@ -61,20 +61,13 @@ pub record Finishes {Lent Record : Type 0} (calls : Calls Lent Record) (bytes : 
   pub length : ℕ
   pub works : Works calls bytes held order (finished left length)
 
--- ---- answers
-
--- what an answer says, its value read by f
-abbrev pub mapAnswer : {A B : Type 0} → (A → B) → Answer A → Answer B
-mapAnswer f (gives value) = gives (f value)
-mapAnswer f (refused number place) = refused number place
-
 -- an edit at another range
-abbrev pub over : Edit → Range → Edit
-over edit range = record { from = range .from; to = range .to; length = edit .length }
+abbrev pub withRange : Edit → Range → Edit
+withRange edit range = record { from = range .from; to = range .to; length = edit .length }
 
 -- ---- what is asked of a message and of edits of it
 
--- a valid message, in at most 16,384 words as its check says; at least one edit, the ranges inside its payload and apart; bytes;
+-- a valid message, in words that may be lent as its check says; at least one edit, the ranges inside its payload and apart; bytes;
 -- room for the payload beside all replacement bytes
 pub record Fits (shape : Shape) (words : List ℕ) (len : ℕ) (patches : List Patch) : Type 0 where
   pub passes : check shape words len ≡ pass

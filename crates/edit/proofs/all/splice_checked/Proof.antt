@@ -12,11 +12,10 @@ use Rattle.refusal.specs.declared.Fault.{Fault}
 use Rattle.ump.specs.Packet.{sysex8}
 use Rattle.ump.specs.Packing.{wordsFor}
 use Rattle.ump.specs.Splice.{Spliced}
-use Rattle.ump.proofs.Signed.{growth-is}
 use Rattle.splice.proofs.Lengths.{words-number}
 use Rattle.splice.proofs.Messages.{inside, size-fits}
 use Rattle.edit.specs.Growth.{Sound}
-use Rattle.edit.specs.Meaning.{listedMeaning}
+use Rattle.edit.specs.Meaning.{sizeMeaning}
 use Rattle.edit.specs.Listed.{listed}
 use Rattle.edit.proofs.Laws.{growth-held}
 use Rattle.edit.proofs.Whole.{all-listed, all-room, can-replace, all-done}
@@ -33,7 +32,7 @@ start c = c .before .before .before .before .before .before .before .before
 -- the list passed
 given : (c : tie.After-words-needed) → let a = start c .args in
     listed (a .size) (length (a .bytes .now)) (a .numbers .now) ≡ gives (c .before .before .listed2 .given .0 .0)
-given c = sym (c .before .before .before .before .check-list .ensures) ∙ ap listedMeaning (c .before .before .listed2 .given .1)
+given c = sym (c .before .before .before .before .check-list .ensures) ∙ ap sizeMeaning (c .before .before .listed2 .given .1)
 
 room : (c : tie.Else1) → wordsFor sysex8 (c .before .before .before .listed2 .given .0 .0) ≤ length (start (c .before) .args .words .now)
 room c = rw (c .before .words-needed .ensures) at (c .if1 .left)
@@ -55,7 +54,7 @@ returns c =
 returns-2 : tie.Need-returns-2
 returns-2 c =
     let k = c .before .before .before in
-    all-listed _ _ _ _ (k .before .before .before .before .pre) (sym (k .check-list .ensures) ∙ ap listedMeaning (c .before .listed .given .1))
+    all-listed _ _ _ _ (k .before .before .before .before .pre) (sym (k .check-list .ensures) ∙ ap sizeMeaning (c .before .listed .given .1))
 
 returns-3 : tie.Need-returns-3
 returns-3 c =
@@ -66,7 +65,6 @@ returns-3 c =
     let total = n .before .before .listed2 .given .0 .0 in
     all-done _ _ _ _ (d .pre) (given n) (room e) (n .words-needed .ensures)
     (growth-held _ (sound e) (c .growth-of .ensures)
-    ∙ growth-is 0 (d .args .size) total (omega arith)
     ∙ ap (λ (m : ℕ). pos total -ℤ pos m) (sub-zero (d .args .size)))
     (a .replace-all .ensures)
 

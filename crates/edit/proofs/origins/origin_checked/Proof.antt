@@ -11,7 +11,7 @@ use Rattle.ump.specs.Check.{payloadOf}
 use Rattle.ump.specs.Edits.{editsOf, patchesOf, replaced, allChecks}
 use Rattle.ump.proofs.Asking.{asked-refused}
 use Rattle.splice.proofs.Messages.{inside, size-fits}
-use Rattle.edit.specs.Meaning.{listedMeaning}
+use Rattle.edit.specs.Meaning.{sizeMeaning}
 use Rattle.edit.specs.Listed.{listed}
 use Rattle.edit.proofs.Lists.{list-passes}
 use Rattle.edit.proofs.Whole.{checks-listed, checks-room, checks-pass, new-sized}
@@ -25,7 +25,7 @@ start c = c .before .before .before .before .before .before .before .before
 -- the list passed
 given : (c : tie.After-words-needed) → let a = start c .args in
     listed (a .size) (length (a .bytes .now)) (a .numbers .now) ≡ gives (c .before .before .listed2 .given .0 .0)
-given c = sym (c .before .before .before .before .check-list .ensures) ∙ ap listedMeaning (c .before .before .listed2 .given .1)
+given c = sym (c .before .before .before .before .check-list .ensures) ∙ ap sizeMeaning (c .before .before .listed2 .given .1)
 
 passes : (c : tie.Else1) → let a = start (c .before) .args in allChecks sysex8 (a .words .now) (a .length) (a .numbers .now) (a .bytes .now) ≡ pass
 passes c =
@@ -72,7 +72,7 @@ returns-5 c =
     let k = c .before .before .before in
     let d = k .before .before .before .before in
     asked-refused _ _ _ _ _ _
-    (checks-listed _ _ (d .args .numbers .now) (d .args .bytes .now) (d .pre) (sym (k .check-list .ensures) ∙ ap listedMeaning (c .before .listed .given .1)))
+    (checks-listed _ _ (d .args .numbers .now) (d .args .bytes .now) (d .pre) (sym (k .check-list .ensures) ∙ ap sizeMeaning (c .before .listed .given .1)))
 
 returns-6 : tie.Need-returns-6
 returns-6 c =

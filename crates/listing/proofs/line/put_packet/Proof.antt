@@ -7,8 +7,8 @@ use lib.ListN.{length, drop, length-drop}
 use lib.Seq.{take-all}
 use Rattle.refusal.specs.Answer.{gives}
 use Rattle.refusal.proofs.Laws.{never-refused}
-use Rattle.ump.specs.Single.{readPacket8}
-use Rattle.ump.proofs.Singles.{packetAt, single-read}
+use Rattle.ump.specs.Single.{readPacket8, packetAt}
+use Rattle.ump.proofs.Singles.{single-read}
 use Rattle.packet.specs.Meaning.{kindMeaning, packetMeaning8}
 use Rattle.listing.specs.Listing.{line, packetLine}
 use Rattle.listing.specs.Steps.{statusOf}

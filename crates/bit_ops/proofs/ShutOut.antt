@@ -5,10 +5,10 @@ use Prim.Native.Nat.{ℕ}
 use lib.Dec.{T, eqb}
 use Rattle.refusal.specs.Answer.{Answer}
 use Rattle.refusal.specs.Tight.{Shuts}
-use Rattle.refusal.proofs.Tight.{differ, told}
 use Rattle.refusal.specs.declared.Fault.{Fault}
 use Rattle.refusal.specs.declared.Refusal.the-variants.{Range, Field}
 use Rattle.refusal.specs.declared.ByteRead.the-variants as byte-read
+use Rattle.refusal.proofs.Tight.{differ, told}
 use Rattle.ump.specs.Word.{getField, setField}
 use Rattle.bit_ops.specs.declared.BitRead.the-variants as bit-read
 use Rattle.bit_ops.specs.declared.WordRead.the-variants as word-read

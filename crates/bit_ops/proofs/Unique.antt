@@ -1,7 +1,7 @@
 -- Any two outcomes that a promise allows are equal. Assumes nothing.
 use mathlib.Core.Path.{sym, _∙_}
-use Rattle.refusal.proofs.Laws.{byte-once}
 use Rattle.refusal.specs.Tight.{FixesResult}
+use Rattle.refusal.proofs.Laws.{byte-once}
 use Rattle.bit_ops.proofs.Laws.{bit-once, word-once, set-once}
 use Rattle.bit_ops.proofs.bit.Kinds as bit-kinds
 use Rattle.bit_ops.proofs.bit.Reads as bit

@@ -15,10 +15,10 @@ use Rattle.ump.specs.Edits.{Patch, patchAt, endBefore, Apart, replaced, total, 
 use Rattle.ump.specs.Partly.{gap}
 use Rattle.ump.proofs.Replace.{length-gap}
 use Rattle.store.specs.Store.{recordsOf, atStart, wellFormed, Dump, delta, dumpNumber, dumpsOf, held}
-use Rattle.chain.specs.Walk.{baseOf, comes, InRing}
-use Rattle.chain.specs.Restore.{Payload, restored, unlimited}
 use Rattle.store.specs.Places.{Ordered}
 use Rattle.store.proofs.Forms.{All, Formed, all-formed, weight, weights, weights-length}
+use Rattle.chain.specs.Walk.{baseOf, comes, InRing}
+use Rattle.chain.specs.Restore.{Payload, restored, unlimited}
 use Rattle.chain.proofs.Walks.{held-by, held-all, ring-restored}
 use Rattle.chain.proofs.Making.{Made, of-whole, of-delta, made, apart}
 use Rattle.chain.proofs.Orders.{restored-agree}

@@ -22,14 +22,14 @@ use Rattle.ump.specs.Holds.{Fewest}
 use Rattle.ump.specs.Worker.{Fits}
 use Rattle.ump.specs.Demand.{WholeEdits}
 use Rattle.ump.specs.Origin.{Origin, originIn, origin, octetFrom, Traced}
+use Rattle.ump.specs.Limits.{mostBytes, Dense}
 use Rattle.ump.proofs.Words.{below-take, below-drop}
 use Rattle.ump.proofs.Sizes.{words-mono}
 use Rattle.ump.proofs.Checks.{pass-both}
 use Rattle.ump.proofs.Splicing.{below-payload}
 use Rattle.ump.proofs.Counting.{total-front}
 use Rattle.ump.proofs.Done.{guard-passed}
-use Rattle.ump.specs.Limits.{mostBytes, Dense}
-use Rattle.ump.proofs.Demand.{fits-small, same-message, rewritten-is-fewest}
+use Rattle.ump.proofs.Demand.{never-more-bytes, same-message, rewritten-is-fewest}
 use Rattle.ump.proofs.Origins.{octet-front, below-replaced, rewritten-traced}
 use Rattle.ump.proofs.Asking.{asked-refused, asked-lent, Given, asked-given}
 use Rattle.splice.proofs.Lists.{Ordered, ordered, widths-inside, length-replaced}
@@ -210,7 +210,7 @@ module _ {s : Shape} (dense : Dense s) (words : List ℕ) (len : ℕ) (numbers b
 
   good-list : badList (length (payloadOf s words len)) (length bytes) numbers ≡ false
   good-list =
-      let most = fits-small dense fits in
+      let most = never-more-bytes dense fits in
       let good = none-bad (length (payloadOf s words len)) 0 edits in-order (omega arith) (omega (arith, put)) in
       rw (eq-eqb (length numbers % perEdit) 0 (whole .edits), good, eq-eqb (length bytes) (lengths edits) (whole .sum))
 

@@ -12,10 +12,10 @@ use Rattle.ump.specs.Edits.{Edit, Patch, spliceAll}
 use Rattle.ump.specs.Origin.{Origin, origin}
 use Rattle.ump.specs.Worker.{Fits, start}
 use Rattle.ump.specs.Demand.{Demand3, Family, Accepts, Audited}
-use Rattle.ump.proofs.Checks.{passes-valid}
-use Rattle.ump.proofs.Splicing.{repack-done}
 use Rattle.ump.specs.Meets.{movedEdit, PlainAnswers}
 use Rattle.ump.specs.Limits.{Dense}
+use Rattle.ump.proofs.Checks.{passes-valid}
+use Rattle.ump.proofs.Splicing.{repack-done}
 use Rattle.ump.proofs.Demand.{same-message}
 use Rattle.ump.proofs.Demand3.{two-workers, plain-demand3}
 use Rattle.ump.proofs.Origins.{splice-traced, repack-traced}

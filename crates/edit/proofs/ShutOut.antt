@@ -10,13 +10,13 @@ use contract.Lifetimes.{Lfts}
 use denote.Triple.Clauses.{AtExit}
 use borrow.Fn.Kinds.{Dens, resT, endedOf}
 use Rattle.refusal.specs.Answer.{Answer, gives}
-use Rattle.refusal.proofs.Laws.{never-both, never-refused}
 use Rattle.refusal.specs.Tight as tight
 use Rattle.refusal.specs.Tight.{Shuts}
-use Rattle.refusal.proofs.Tight.{differ, told}
 use Rattle.refusal.specs.declared.Fault.{Fault}
 use Rattle.refusal.specs.declared.Refusal.{Refusal}
 use Rattle.refusal.specs.declared.Refusal.the-variants as refusal
+use Rattle.refusal.proofs.Laws.{never-both, never-refused}
+use Rattle.refusal.proofs.Tight.{differ, told}
 use Rattle.ump.specs.Word.{octets, wordsOf}
 use Rattle.ump.specs.Packet.{sizeOf, payloadAt, joined, payload}
 use Rattle.ump.specs.Packing.{statusFor, frame, packsAt, packs, packetsFor, pack}

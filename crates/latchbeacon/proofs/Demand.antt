@@ -14,9 +14,9 @@ use Rattle.ump.specs.Worker.{withRange, Finishes, bytesOf, start}
 use Rattle.ump.specs.Demand.{Audited}
 use Rattle.ump.specs.Origin.{Origin, headerOctet, carried, dumpByte, editByte, filler, zeroed, untouched, origin}
 use Rattle.ump.specs.Samples.{message5, patches8}
-use Rattle.ump.proofs.Numbered.{Numbered, accepted, numbered, repack-numbered, splice-numbered, all-numbered, origin-numbered, move-numbered}
 use Rattle.ump.specs.Meets.{PlainAnswers}
 use Rattle.ump.specs.Orders.{BehindDiffers}
+use Rattle.ump.proofs.Numbered.{Numbered, accepted, numbered, repack-numbered, splice-numbered, all-numbered, origin-numbered, move-numbered}
 use Rattle.ump.proofs.Limits.{dense8}
 use Rattle.ump.proofs.NotEmpty.{fits8}
 use Rattle.ump.proofs.Orders as orders

@@ -2,8 +2,8 @@
 use mathlib.Core.Path.{_≡_, refl, ap}
 use Prim.Native.Nat.{ℕ}
 use Rattle.refusal.specs.Answer.{Answer, gives, refused}
-use Rattle.refusal.proofs.Laws.{faultBack, fault-back}
 use Rattle.refusal.specs.Tight.{FixesOutcome}
+use Rattle.refusal.proofs.Laws.{faultBack, fault-back}
 use Rattle.refusal.proofs.Tight.{once, both-fixed}
 use Rattle.listing.specs.Meaning.{listedMeaning}
 use Rattle.listing.specs.declared.Listed.{Listed}

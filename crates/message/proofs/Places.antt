@@ -8,7 +8,7 @@ use Rattle.ump.specs.Packet.{sysex8, countAt, sizeAt, byteAt, payload}
 use Rattle.ump.specs.Check.{payloadOf}
 use Rattle.ump.specs.Setters.{packetOf, byteIn}
 use Rattle.ump.proofs.Sizes.{size-small}
-use Rattle.ump.proofs.Setting.{packetOf-below, byteIn-below, getD-payload}
+use Rattle.ump.proofs.BytePlaces.{packetOf-below, byteIn-below, getD-payload}
 use Rattle.message.specs.Scan.{Sized, Found}
 use Rattle.message.proofs.Laws.{Here, here}
 use Rattle.message.proofs.Checked.{shaped8, Taken, taken-inside, taken-counted}

@@ -1,8 +1,8 @@
 -- Any two outcomes that a promise allows are equal: the answer, and all that is lent after a call that writes. Assumes nothing.
 use mathlib.Core.Path.{sym, _∙_}
 use Rattle.refusal.specs.Meaning.{storedMeaning}
-use Rattle.refusal.proofs.Laws.{stored-once, byte-once}
 use Rattle.refusal.specs.Tight.{FixesResult, FixesOutcome}
+use Rattle.refusal.proofs.Laws.{stored-once, byte-once}
 use Rattle.refusal.proofs.Tight.{both-fixed}
 use Rattle.message.specs.Meaning.{copiedMeaning}
 use Rattle.message.proofs.Once.{checked8-once, checked7-once, copied-once}

@@ -9,9 +9,9 @@ use lib.ListN.{getD}
 use borrow.Fn.Kinds.{Dens, resT, endedOf}
 use Rattle.refusal.specs.Answer.{Answer, Verdict}
 use Rattle.refusal.specs.Tight.{ShutOut}
-use Rattle.refusal.proofs.Tight.{differ, told}
 use Rattle.refusal.specs.declared.Refusal.the-variants.{Status}
 use Rattle.refusal.specs.declared.ByteRead.the-variants.{Value}
+use Rattle.refusal.proofs.Tight.{differ, told}
 use Rattle.ump.specs.Word.{octets}
 use Rattle.ump.specs.Packet.{sizeOf}
 use Rattle.ump.specs.Check.{badType, badCount}

@@ -1,8 +1,8 @@
 -- Any two outcomes that a promise allows are equal: the answer, and all lent words after a call that writes. Assumes nothing.
 use mathlib.Core.Path.{sym, _∙_}
 use Rattle.refusal.specs.Meaning.{storedMeaning}
-use Rattle.refusal.proofs.Laws.{stored-once, byte-once}
 use Rattle.refusal.specs.Tight.{FixesResult, FixesOutcome}
+use Rattle.refusal.proofs.Laws.{stored-once, byte-once}
 use Rattle.refusal.proofs.Tight.{both-fixed}
 use Rattle.packet.proofs.Once.{packet8-once, packet7-once}
 use Rattle.packet.proofs.sysex8.read_packet.Kinds as read8-kinds

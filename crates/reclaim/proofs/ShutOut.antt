@@ -4,8 +4,8 @@ use mathlib.Core.List.{List, _∷_, _++_}
 use Prim.Native.Nat.{ℕ}
 use lib.ListN.{getD}
 use Rattle.refusal.specs.declared.Fault.{Fault}
-use Rattle.refusal.proofs.Laws.{never-both, never-refused}
 use Rattle.refusal.specs.Tight.{ShutOut}
+use Rattle.refusal.proofs.Laws.{never-both, never-refused}
 use Rattle.refusal.proofs.Tight.{differ, told}
 use Rattle.store.specs.Store.{isData, bodySize, recordsAfter, followsBy, allowedBy, wellFormed, dataIn, patchesIn, dumpOf, dumpsIn, held, twice, sound}
 use Rattle.store.specs.Samples.{one, two, bare}

@@ -4,7 +4,6 @@ use mathlib.Core.Bool.{Bool, true, false}
 use Prim.Native.Nat.{ℕ, _<_}
 use lib.Dec.{lit<}
 use native.Mathlib.Omega.{arith}
-use Rattle.refusal.proofs.Tight.{once}
 use Rattle.refusal.specs.Answer.{Answer, gives, refused, Verdict, pass, _▷_, guard, writesAs, writes}
 use Rattle.refusal.specs.Number.{numberOf, nameOf}
 use Rattle.refusal.specs.Meaning.{storedMeaning, byteMeaning}
@@ -15,6 +14,7 @@ use Rattle.refusal.specs.declared.Stored.{Stored}
 use Rattle.refusal.specs.declared.Stored.the-variants as stored
 use Rattle.refusal.specs.declared.ByteRead.{ByteRead}
 use Rattle.refusal.specs.declared.ByteRead.the-variants as byte
+use Rattle.refusal.proofs.Tight.{once}
 
 -- ---- the numbers
 

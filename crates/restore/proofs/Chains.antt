@@ -26,8 +26,8 @@ use Rattle.chain.proofs.Walks as walks
 use Rattle.chain.proofs.Walks.{End, ring, missing, rests, walk, comes-join, comes-base, ring-comes, over-ring, endless, restored-ring, ring-restored, restored-more, begun}
 use Rattle.chain.proofs.Making.{given-room}
 use Rattle.chain.proofs.Orders.{restored-held, described-held, shuffled-length, shuffled-twice, shuffled-held}
-use Rattle.restore.proofs.Groups.{restore-is, restore-unsound}
 use Rattle.chain.proofs.Needs.{roomed-is, given-either, refused-either, needs-enough, needs-all, restored-bottom}
+use Rattle.restore.proofs.Groups.{restore-is, restore-unsound}
 
 -- ---- the call
 

@@ -14,11 +14,11 @@ use Rattle.ump.specs.Limits.{mostWords}
 use Rattle.store.specs.Store.{recordsOf, Dump, dumpsOf, atStart, wellFormed, sound}
 use Rattle.store.proofs.Forms.{All, Formed, all-formed}
 use Rattle.chain.specs.Restore.{Payload, exceeds, restored, laidOut, answered, restore}
+use Rattle.chain.proofs.Making.{given-room, given-group}
 use Rattle.restore.specs.Laying.{Lays, baseIn}
 use Rattle.restore.specs.declared.restoring.Held.{Held}
 use Rattle.restore.specs.declared.restoring.Laid.{Laid}
 use Rattle.restore.specs.declared.restoring.Laid.the-variants as laid
-use Rattle.chain.proofs.Making.{given-room, given-group}
 use Rattle.restore.proofs.Rooms.{base-refused, base-given}
 
 -- ---- what a restored dump has

@@ -6,8 +6,8 @@ use lib.ListN.{getD}
 use Rattle.refusal.specs.declared.Refusal.{Refusal}
 use Rattle.refusal.specs.declared.Refusal.the-variants.{Room, Ring}
 use Rattle.refusal.specs.declared.Fault.{Fault}
-use Rattle.refusal.proofs.Laws.{never-both, never-refused}
 use Rattle.refusal.specs.Tight.{ShutOut}
+use Rattle.refusal.proofs.Laws.{never-both, never-refused}
 use Rattle.refusal.proofs.Tight.{differ, told}
 use Rattle.ump.specs.Word.{wordsOf}
 use Rattle.ump.specs.Packet.{joined}

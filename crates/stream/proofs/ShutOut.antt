@@ -7,9 +7,9 @@ use denote.Triple.Clauses.{AtExit}
 use lib.ListN.{getD, replicate}
 use borrow.Fn.Kinds.{Dens, resT, endedOf}
 use Rattle.refusal.specs.Answer.{Answer}
-use Rattle.refusal.proofs.Tight.{differ, told}
 use Rattle.refusal.specs.declared.Refusal.{Refusal}
 use Rattle.refusal.specs.declared.Refusal.the-variants.{Room, Frame, Byte}
+use Rattle.refusal.proofs.Tight.{differ, told}
 use Rattle.ump.specs.Word.{wordsOf}
 use Rattle.ump.specs.Packet.{joined}
 use Rattle.ump.specs.Packing.{statusFor, frame, packsAt, packs, packetsFor, pack}

@@ -53,10 +53,10 @@ stored-behind words len message i h =
         ∙ ap (λ (j : ℕ). getD words j 0) g)
 
 -- a message rewritten with other bytes
-pub rewritten-behind : (s : Shape) (words : List ℕ) (len : ℕ) (new : List ℕ) → Behind words len (rewritten s words len new) (wordsFor s (length new))
+pub rewritten-behind : (shape : Shape) (words : List ℕ) (len : ℕ) (new : List ℕ) → Behind words len (rewritten shape words len new) (wordsFor shape (length new))
 unfolding rewritten
-rewritten-behind s words len new =
+rewritten-behind shape words len new =
     record {
-      word = λ i h. stored-behind words len (pack s (groupAt s words 0) (idAt s words 0) new) i
-          (omega (arith, length-pack s (groupAt s words 0) (idAt s words 0) new (length-id s words 0)));
+      word = λ i h. stored-behind words len (pack shape (groupAt shape words 0) (idAt shape words 0) new) i
+          (omega (arith, length-pack shape (groupAt shape words 0) (idAt shape words 0) new (length-id shape words 0)));
     }

@@ -18,15 +18,15 @@ use Rattle.ump.proofs.First.{first-none, first-before}
 
 -- ---- a sweep over the packets passes exactly if none is at fault
 
-pub sweep-pass : (s : Shape) (nr : ℕ → ℕ) (bad : ℕ → Bool) (n : ℕ) → ((p : ℕ) → p < n → bad p ≡ false) → sweep s nr bad n ≡ pass
-sweep-pass s nr bad n h = rw (first-none bad n h, le-ltb n n (omega arith))
+pub sweep-pass : (shape : Shape) (nr : ℕ → ℕ) (bad : ℕ → Bool) (n : ℕ) → ((p : ℕ) → p < n → bad p ≡ false) → sweep shape nr bad n ≡ pass
+sweep-pass shape nr bad n h = rw (first-none bad n h, le-ltb n n (omega arith))
 
 guard-pass : (b : Bool) (nr at : ℕ) → guard b nr at ≡ pass → b ≡ false
 guard-pass true nr at e = never-refused e
 guard-pass false nr at e = refl
 
-pub pass-sweep : (s : Shape) (nr : ℕ → ℕ) (bad : ℕ → Bool) (n : ℕ) → sweep s nr bad n ≡ pass → (p : ℕ) → p < n → bad p ≡ false
-pass-sweep s nr bad n e p h =
+pub pass-sweep : (shape : Shape) (nr : ℕ → ℕ) (bad : ℕ → Bool) (n : ℕ) → sweep shape nr bad n ≡ pass → (p : ℕ) → p < n → bad p ≡ false
+pass-sweep shape nr bad n e p h =
     let k : n ≤ firstWhere bad n = ltb-false (firstWhere bad n) n (guard-pass _ _ _ e) in
     first-before bad n p (omega arith)
 
@@ -69,29 +69,29 @@ guard-no b nr at e = rw e
 pub both-pass : {u v : Verdict} → u ≡ pass → v ≡ pass → u ▷ v ≡ pass
 both-pass e f = rw (e, f)
 
-pub valid-passes : (s : Shape) (ws : List ℕ) (len : ℕ) → Valid s ws len → check s ws len ≡ pass
+pub valid-passes : (shape : Shape) (words : List ℕ) (len : ℕ) → Valid shape words len → check shape words len ≡ pass
 unfolding check checkPackets badType badStatus badCount badGroup badId
-valid-passes s ws len v =
+valid-passes shape words len v =
     let n = v .packets in
-    let q : len / s .words ≡ n = rw (v .whole) (mul-div-right n (words-pos s)) in
-    let r : len % s .words ≡ 0 = rw (v .whole) (mul-mod-right (s .words) n) in
-    let l : s .words ≤ len = rw (v .whole) (le-mul-of-pos-right (s .words) (v .some-packet)) in
-    both-pass (guard-no _ 1 0 (le-ltb mostWords (length ws) (v .short-enough)))
-    (both-pass (guard-no _ 2 0 (le-ltb (length ws) len (v .inside)))
-    (both-pass (guard-no _ 3 0 (le-ltb len (s .words) l))
-    (both-pass (guard-no _ 4 0 (ap not (eq-eqb (len % s .words) 0 r)))
+    let q : len / shape .words ≡ n = rw (v .whole) (mul-div-right n (words-pos shape)) in
+    let r : len % shape .words ≡ 0 = rw (v .whole) (mul-mod-right (shape .words) n) in
+    let l : shape .words ≤ len = rw (v .whole) (le-mul-of-pos-right (shape .words) (v .some-packet)) in
+    both-pass (guard-no _ 1 0 (le-ltb mostWords (length words) (v .short-enough)))
+    (both-pass (guard-no _ 2 0 (le-ltb (length words) len (v .inside)))
+    (both-pass (guard-no _ 3 0 (le-ltb len (shape .words) l))
+    (both-pass (guard-no _ 4 0 (ap not (eq-eqb (len % shape .words) 0 r)))
     (rw q
-    (both-pass (sweep-pass s (λ p. 5) (badType s ws) n (λ p h. ap not (eq-eqb _ _ (v .types p h))))
-    (both-pass (sweep-pass s (statusNumber n) (badStatus s ws n) n (λ p h. ap not (eq-eqb _ _ (v .statuses p h))))
-    (both-pass (sweep-pass s (λ p. 10) (badCount s ws) n (λ p h. rw (le-ltb _ _ (v .counts p h .0), le-ltb _ _ (v .counts p h .1))))
-    (both-pass (sweep-pass s (λ p. 11) (badGroup s ws) n (λ p h. ap not (eq-eqb _ _ (v .groups p h))))
-    (sweep-pass s (λ p. 12) (badId s ws) n (λ p h. rw (v .one-id p h) (ap not (same-refl (idAt s ws 0)))))))))))))
+    (both-pass (sweep-pass shape (λ p. 5) (badType shape words) n (λ p h. ap not (eq-eqb _ _ (v .types p h))))
+    (both-pass (sweep-pass shape (statusNumber n) (badStatus shape words n) n (λ p h. ap not (eq-eqb _ _ (v .statuses p h))))
+    (both-pass (sweep-pass shape (λ p. 10) (badCount shape words) n (λ p h. rw (le-ltb _ _ (v .counts p h .0), le-ltb _ _ (v .counts p h .1))))
+    (both-pass (sweep-pass shape (λ p. 11) (badGroup shape words) n (λ p h. ap not (eq-eqb _ _ (v .groups p h))))
+    (sweep-pass shape (λ p. 12) (badId shape words) n (λ p h. rw (v .one-id p h) (ap not (same-refl (idAt shape words 0)))))))))))))
 
-pub passes-valid : (s : Shape) (ws : List ℕ) (len : ℕ) → check s ws len ≡ pass → Valid s ws len
+pub passes-valid : (shape : Shape) (words : List ℕ) (len : ℕ) → check shape words len ≡ pass → Valid shape words len
 unfolding check checkPackets badType badStatus badCount badGroup badId
-passes-valid s ws len e =
-    let n = len / s .words in
-    let split : s .words * n + len % s .words ≡ len = div-add-mod len (s .words) in
+passes-valid shape words len e =
+    let n = len / shape .words in
+    let split : shape .words * n + len % shape .words ≡ len = div-add-mod len (shape .words) in
     let e1 = pass-both _ _ e in
     let e2 = pass-both _ _ (e1 .1) in
     let e3 = pass-both _ _ (e2 .1) in
@@ -100,23 +100,23 @@ passes-valid s ws len e =
     let e6 = pass-both _ _ (e5 .1) in
     let e10 = pass-both _ _ (e6 .1) in
     let e11 = pass-both _ _ (e10 .1) in
-    let l : s .words ≤ len = ltb-false _ _ (guard-pass _ _ _ (e3 .0)) in
-    let r : len % s .words ≡ 0 = eqb-true _ _ (not-false _ (guard-pass _ _ _ (e4 .0))) in
+    let l : shape .words ≤ len = ltb-false _ _ (guard-pass _ _ _ (e3 .0)) in
+    let r : len % shape .words ≡ 0 = eqb-true _ _ (not-false _ (guard-pass _ _ _ (e4 .0))) in
     record {
       short-enough = ltb-false _ _ (guard-pass _ _ _ (e1 .0));
       inside = ltb-false _ _ (guard-pass _ _ _ (e2 .0));
       packets = n;
-      some-packet = div-pos (words-pos s) l;
+      some-packet = div-pos (words-pos shape) l;
       whole = sym split ∙ rw (r, add-zero);
-      types = λ p h. eqb-true _ _ (not-false _ (pass-sweep s (λ p. 5) (badType s ws) n (e5 .0) p h));
-      statuses = λ p h. eqb-true _ _ (not-false _ (pass-sweep s (statusNumber n) (badStatus s ws n) n (e6 .0) p h));
+      types = λ p h. eqb-true _ _ (not-false _ (pass-sweep shape (λ p. 5) (badType shape words) n (e5 .0) p h));
+      statuses = λ p h. eqb-true _ _ (not-false _ (pass-sweep shape (statusNumber n) (badStatus shape words n) n (e6 .0) p h));
       counts = λ p h.
-          let b = pass-sweep s (λ p. 10) (badCount s ws) n (e10 .0) p h in
-          let lo = ltb (countAt s ws p) (s .bias) in
-          let hi = ltb (s .room + s .bias) (countAt s ws p) in
+          let b = pass-sweep shape (λ p. 10) (badCount shape words) n (e10 .0) p h in
+          let lo = ltb (countAt shape words p) (shape .bias) in
+          let hi = ltb (shape .room + shape .bias) (countAt shape words p) in
           (ltb-false _ _ (or-left lo hi b), ltb-false _ _ (or-right lo hi b));
-      groups = λ p h. eqb-true _ _ (not-false _ (pass-sweep s (λ p. 11) (badGroup s ws) n (e11 .0) p h));
-      one-id = λ p h. same-eq _ _ (not-false _ (pass-sweep s (λ p. 12) (badId s ws) n (e11 .1) p h));
+      groups = λ p h. eqb-true _ _ (not-false _ (pass-sweep shape (λ p. 11) (badGroup shape words) n (e11 .0) p h));
+      one-id = λ p h. same-eq _ _ (not-false _ (pass-sweep shape (λ p. 12) (badId shape words) n (e11 .1) p h));
     }
   where
     div-pos : {a b : ℕ} → 0 < a → a ≤ b → 0 < b / a

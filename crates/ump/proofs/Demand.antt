@@ -16,73 +16,75 @@ use Rattle.ump.specs.Edits.{Patch, patchAt, editAt, replaced, Order}
 use Rattle.ump.specs.Holds.{Holds, Fewest, Behind}
 use Rattle.ump.specs.Worker.{Calls, Held, End, finished, stopped, Works, rests, Finishes, Fits, bytesOf, Each, Placed, reached}
 use Rattle.ump.specs.Meets.{View, Meets, Answers, mostOnTheWay, Begins}
+use Rattle.ump.specs.Partly.{editNow}
 use Rattle.ump.proofs.Limits.{dense-fits}
 use Rattle.ump.proofs.Checks.{passes-valid}
 use Rattle.ump.proofs.Replace.{mixed-none, mixed-order, after}
 use Rattle.ump.proofs.Splicing.{rewritten-holds, rewritten-fewest}
-use Rattle.ump.specs.Partly.{editNow}
 use Rattle.ump.proofs.Moving.{none-moved}
 use Rattle.ump.proofs.Steps.{order-below, Ends, At, Has, works, placed, behind, goes}
 
--- ---- the theorems
-
 -- no more bytes than the limit are on the way
-pub fits-small : {shape : Shape} → Dense shape → {words : List ℕ} {len : ℕ} {patches : List Patch} → Fits shape words len patches → mostOnTheWay shape words len patches ≤ mostBytes
-fits-small {shape} dense {words} {len} fits = dense-fits shape dense _ (length words) (fits .room) (passes-valid shape words len (fits .passes) .short-enough)
+pub never-more-bytes : {shape : Shape} → Dense shape → {words : List ℕ} {len : ℕ} {patches : List Patch} → Fits shape words len patches → mostOnTheWay shape words len patches ≤ mostBytes
+never-more-bytes {shape} dense {words} {len} fits = dense-fits shape dense _ (length words) (fits .room) (passes-valid shape words len (fits .passes) .short-enough)
 
 -- two messages that are the fewest-packet form of the same bytes, with one group and id: the same length and the same words. (Words
 -- past the message may differ.)
-pub same-message : {s : Shape} {g g-other : ℕ} {id id-other bytes bytes-other : List ℕ} {lent lent-other len len-other : ℕ} {words other : List ℕ}
-    → g ≡ g-other → id ≡ id-other → bytes ≡ bytes-other
-    → Fewest s g id bytes lent words len → Fewest s g-other id-other bytes-other lent-other other len-other
+pub same-message : {shape : Shape} {group group-other : ℕ} {id id-other bytes bytes-other : List ℕ} {lent lent-other len len-other : ℕ} {words other : List ℕ}
+    → group ≡ group-other → id ≡ id-other → bytes ≡ bytes-other
+    → Fewest shape group id bytes lent words len → Fewest shape group-other id-other bytes-other lent-other other len-other
     → (len ≡ len-other) × (take len words ≡ take len-other other)
-same-message {s} {g-other = g-other} {id = id} {id-other = id-other} {bytes = bytes} e i b f h = (
-  f .length-is ∙ ap (λ (x : List ℕ). wordsFor s (length x)) b ∙ sym (h .length-is),
-  f .packed ∙ ap (λ (x : ℕ). pack s x id bytes) e ∙ ap (λ (x : List ℕ). pack s g-other x bytes) i ∙ ap (pack s g-other id-other) b ∙ sym (h .packed),
+same-message {shape} {group-other = group-other} {id = id} {id-other = id-other} {bytes = bytes} groups ids payloads one other = (
+  one .length-is ∙ ap (λ (x : List ℕ). wordsFor shape (length x)) payloads ∙ sym (other .length-is),
+  one .packed
+      ∙ ap (λ (x : ℕ). pack shape x id bytes) groups
+      ∙ ap (λ (x : List ℕ). pack shape group-other x bytes) ids
+      ∙ ap (pack shape group-other id-other) payloads
+      ∙ sym (other .packed),
 )
 
 -- a valid message rewritten with other bytes, where there is room, is their fewest-packet form
-pub rewritten-is-fewest : (s : Shape) (words : List ℕ) (len : ℕ) (new : List ℕ) → check s words len ≡ pass → Below (s .limit) new
-    → wordsFor s (length new) ≤ length words
-    → Fewest s (groupAt s words 0) (idAt s words 0) new (length words) (rewritten s words len new) (wordsFor s (length new))
-rewritten-is-fewest s words len new ok small room =
-    let h : Holds s (groupAt s words 0) (idAt s words 0) (payloadOf s words len) (length words) words len =
-    record { valid = passes-valid s words len ok; group-is = refl; id-is = refl; carries = refl; buffer = refl }
+pub rewritten-is-fewest : (shape : Shape) (words : List ℕ) (len : ℕ) (new : List ℕ) → check shape words len ≡ pass → Below (shape .limit) new
+    → wordsFor shape (length new) ≤ length words
+    → Fewest shape (groupAt shape words 0) (idAt shape words 0) new (length words) (rewritten shape words len new) (wordsFor shape (length new))
+rewritten-is-fewest shape words len new ok small room =
+    let h : Holds shape (groupAt shape words 0) (idAt shape words 0) (payloadOf shape words len) (length words) words len =
+    record { valid = passes-valid shape words len ok; group-is = refl; id-is = refl; carries = refl; buffer = refl }
     in
     record {
       length-is = refl;
-      packed = rewritten-fewest s _ _ _ (length words) words len h new small room;
-      holds = rewritten-holds s _ _ _ (length words) words len h new small room;
+      packed = rewritten-fewest shape _ _ _ (length words) words len h new small room;
+      holds = rewritten-holds shape _ _ _ (length words) words len h new small room;
     }
 
-module _ {Lent Record : Type 0} {s : Shape} (dense : Dense s) {view : View Lent Record} {calls : Calls Lent Record} {patches : List Patch} {held : Held Lent Record}
-    (fits : Fits s (view .wordsOf (held .lent)) (held .length) patches)
-    (meets : Meets s (mostOnTheWay s (view .wordsOf (held .lent)) (held .length) patches) view calls)
-    (begins : Begins s view patches held) where
+module _ {Lent Record : Type 0} {shape : Shape} (dense : Dense shape) {view : View Lent Record} {calls : Calls Lent Record} {patches : List Patch} {held : Held Lent Record}
+    (fits : Fits shape (view .wordsOf (held .lent)) (held .length) patches)
+    (meets : Meets shape (mostOnTheWay shape (view .wordsOf (held .lent)) (held .length) patches) view calls)
+    (begins : Begins shape view patches held) where
   abbrev words : List ℕ
   words = view .wordsOf (held .lent)
 
   abbrev group : ℕ
-  group = groupAt s words 0
+  group = groupAt shape words 0
 
   abbrev id : List ℕ
-  id = idAt s words 0
+  id = idAt shape words 0
 
   abbrev payload : List ℕ
-  payload = payloadOf s words (held .length)
+  payload = payloadOf shape words (held .length)
 
-  small : mostOnTheWay s words (held .length) patches ≤ mostBytes
-  small = fits-small dense fits
+  small : mostOnTheWay shape words (held .length) patches ≤ mostBytes
+  small = never-more-bytes dense fits
 
   abbrev HasNow : List ℕ → Lent → ℕ → Type 0
-  HasNow = Has s view calls group id payload (length words) patches (fits .apart) (fits .bytes) (fits .room) small meets
+  HasNow = Has shape view calls group id payload (length words) patches (fits .apart) (fits .bytes) (fits .room) small meets
 
   at-first : (order : List ℕ) → Order (length patches) order
-      → At s view calls group id payload (length words) patches (fits .apart) (fits .bytes) (fits .room) small meets [] order held
+      → At shape view calls group id payload (length words) patches (fits .apart) (fits .bytes) (fits .room) small meets [] order held
   at-first order o =
       record {
         holds = record {
-          valid = passes-valid s words (held .length) (fits .passes);
+          valid = passes-valid shape words (held .length) (fits .passes);
           group-is = refl;
           id-is = refl;
           carries = sym (mixed-none payload patches (fits .apart));
@@ -101,7 +103,7 @@ module _ {Lent Record : Type 0} {s : Shape} (dense : Dense s) {view : View Lent 
   ends : (i : ℕ) (order : List ℕ) → Order (length patches) (i ∷ order) → (end : End Lent) → Works calls (bytesOf patches) held (i ∷ order) end
       → Ends (HasNow (after [] (i ∷ order))) end
   ends i order o end w =
-      works s view calls group id payload (length words) patches (fits .apart) (fits .bytes) (fits .room) small meets order i [] held end (at-first (i ∷ order) o) w
+      works shape view calls group id payload (length words) patches (fits .apart) (fits .bytes) (fits .room) small meets order i [] held end (at-first (i ∷ order) o) w
 
   -- 1. No call is refused: in no order, of all the edits or of some, does a worker stop at a refusal of a splice or of a move.
   pub no-refusal : (order : List ℕ) → Order (length patches) order → {number place : ℕ} → Works calls (bytesOf patches) held order (stopped number place) → ⊥
@@ -114,7 +116,7 @@ module _ {Lent Record : Type 0} {s : Shape} (dense : Dense s) {view : View Lent 
 
   -- 2. The message at the end is the fewest-packet form of the payload with all ranges replaced at once.
   pub result : (order : List ℕ) → Each patches order → {left : Lent} {len : ℕ} → Works calls (bytesOf patches) held order (finished left len)
-      → Fewest s (groupAt s words 0) (idAt s words 0) (replaced (payloadOf s words (held .length)) patches) (length words) (view .wordsOf left) len
+      → Fewest shape (groupAt shape words 0) (idAt shape words 0) (replaced (payloadOf shape words (held .length)) patches) (length words) (view .wordsOf left) len
   result order each w = rw (mixed-order payload patches (fits .apart) order (each .0) (each .1)) at (has order each w .fewest)
 
   -- What stands beside the words is right at the end, also where some of the edits alone are done.
@@ -124,19 +126,19 @@ module _ {Lent Record : Type 0} {s : Shape} (dense : Dense s) {view : View Lent 
   result-beside (i ∷ order) o {left} {len} w = ends i order o (finished left len) w .beside
 
   -- 3. In each order, of all the edits or of some, there is a worker that finishes, if the calls have an outcome where the definitions give one.
-  pub finishes : Answers s (mostOnTheWay s words (held .length) patches) view calls → (order : List ℕ) → Order (length patches) order
+  pub finishes : Answers shape (mostOnTheWay shape words (held .length) patches) view calls → (order : List ℕ) → Order (length patches) order
       → Finishes calls (bytesOf patches) held order
   finishes answers order o =
-      goes s view calls group id payload (length words) patches (fits .apart) (fits .bytes) (fits .room) small meets answers order [] held (at-first order o)
+      goes shape view calls group id payload (length words) patches (fits .apart) (fits .bytes) (fits .room) small meets answers order [] held (at-first order o)
 
   -- 4. At each step each edit that is left stands at its old range, plus the signed growth of the lower-numbered ones already done.
   pub places : (order : List ℕ) → Order (length patches) order → {end : End Lent} → (w : Works calls (bytesOf patches) held order end)
       → Placed (view .editOf) patches [] w
   places order o {end} w =
-      placed s view calls group id payload (length words) patches (fits .apart) (fits .bytes) (fits .room) small meets order [] held end (at-first order o) w
+      placed shape view calls group id payload (length words) patches (fits .apart) (fits .bytes) (fits .room) small meets order [] held end (at-first order o) w
 
   -- 5. Behind the message each word is zero where one stood on the way, else it is as it was.
-  pub rest : (order : List ℕ) → Order (length patches) order → {left : Lent} {size : ℕ} → (w : Works calls (bytesOf patches) held order (finished left size))
+  pub words-behind : (order : List ℕ) → Order (length patches) order → {left : Lent} {size : ℕ} → (w : Works calls (bytesOf patches) held order (finished left size))
       → Behind words (reached w) (view .wordsOf left) size
-  rest order o {left} {size} w =
-      behind s view calls group id payload (length words) patches (fits .apart) (fits .bytes) (fits .room) small meets order [] held (finished left size) (at-first order o) w
+  words-behind order o {left} {size} w =
+      behind shape view calls group id payload (length words) patches (fits .apart) (fits .bytes) (fits .room) small meets order [] held (finished left size) (at-first order o) w

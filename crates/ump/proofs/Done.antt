@@ -19,32 +19,32 @@ guard-passed true number place e = never-refused e
 guard-passed false number place e = refl
 
 -- in range and with room, and the message written is the fewest-packet form of the new payload
-pub record Known (s : Shape) (words : List ℕ) (len from to : ℕ) (bytes : List ℕ) (change : Spliced) (left : List ℕ) : Type 0 where
-  pub passes : check s words len ≡ pass
+pub record Known (shape : Shape) (words : List ℕ) (len from to : ℕ) (bytes : List ℕ) (change : Spliced) (left : List ℕ) : Type 0 where
+  pub passes : check shape words len ≡ pass
   pub forward : from ≤ to
-  pub inside : to ≤ length (payloadOf s words len)
-  pub room : wordsFor s (length (spliced (payloadOf s words len) from to bytes)) ≤ length words
-  pub length-is : wordsFor s (length (spliced (payloadOf s words len) from to bytes)) ≡ change .length
-  pub left-is : rewritten s words len (spliced (payloadOf s words len) from to bytes) ≡ left
+  pub inside : to ≤ length (payloadOf shape words len)
+  pub room : wordsFor shape (length (spliced (payloadOf shape words len) from to bytes)) ≤ length words
+  pub length-is : wordsFor shape (length (spliced (payloadOf shape words len) from to bytes)) ≡ change .length
+  pub left-is : rewritten shape words len (spliced (payloadOf shape words len) from to bytes) ≡ left
 
-pub known : (s : Shape) (words : List ℕ) (len from to : ℕ) (bytes : List ℕ) (change : Spliced) (left : List ℕ)
-    → splice s words len from to bytes ≡ (gives change, left) → Known s words len from to bytes change left
+pub known : (shape : Shape) (words : List ℕ) (len from to : ℕ) (bytes : List ℕ) (change : Spliced) (left : List ℕ)
+    → splice shape words len from to bytes ≡ (gives change, left) → Known shape words len from to bytes change left
 unfolding splice
-known s words len from to bytes change left e =
-    let old = payloadOf s words len in
+known shape words len from to bytes change left e =
+    let old = payloadOf shape words len in
     let new = spliced old from to bytes in
     let w =
     writes-given
-    (check s words len
+    (check shape words len
     ▷ guard (ltb to from || ltb (length old) to) 13 0
-    ▷ guard (ltb len (wordsFor s (length old))) 19 0
-    ▷ guard (ltb (length words) (wordsFor s (length new))) 14 0)
-    words (rewritten s words len new) (record { length = wordsFor s (length new); growth = growthBy (length bytes) (to - from) }) e
+    ▷ guard (ltb len (wordsFor shape (length old))) 19 0
+    ▷ guard (ltb (length words) (wordsFor shape (length new))) 14 0)
+    words (rewritten shape words len new) (record { length = wordsFor shape (length new); growth = growthBy (length bytes) (to - from) }) e
     in
-    let last = guard (ltb (length words) (wordsFor s (length new))) 14 0 in
-    let spread = guard (ltb len (wordsFor s (length old))) 19 0 in
+    let last = guard (ltb (length words) (wordsFor shape (length new))) 14 0 in
+    let spread = guard (ltb len (wordsFor shape (length old))) 19 0 in
     let outside = guard (ltb to from || ltb (length old) to) 13 0 in
-    let a = pass-both (check s words len) (outside ▷ spread ▷ last) (w .0) in
+    let a = pass-both (check shape words len) (outside ▷ spread ▷ last) (w .0) in
     let b = pass-both outside (spread ▷ last) (a .1) in
     let c = pass-both spread last (b .1) in
     let range = guard-passed (ltb to from || ltb (length old) to) 13 0 (b .0) in
@@ -52,26 +52,26 @@ known s words len from to bytes change left e =
       passes = a .0;
       forward = ltb-false to from (or-left (ltb to from) (ltb (length old) to) range);
       inside = ltb-false (length old) to (or-right (ltb to from) (ltb (length old) to) range);
-      room = ltb-false (length words) (wordsFor s (length new)) (guard-passed (ltb (length words) (wordsFor s (length new))) 14 0 (c .1));
+      room = ltb-false (length words) (wordsFor shape (length new)) (guard-passed (ltb (length words) (wordsFor shape (length new))) 14 0 (c .1));
       length-is = ap (λ (x : Spliced). x .length) (w .1);
       left-is = w .2;
     }
 
 -- a message packed: the fewest-packet form of its own payload
-pub record Packing (s : Shape) (words : List ℕ) (len new : ℕ) (left : List ℕ) : Type 0 where
-  pub passes : check s words len ≡ pass
-  pub room : wordsFor s (length (payloadOf s words len)) ≤ length words
-  pub length-is : wordsFor s (length (payloadOf s words len)) ≡ new
-  pub left-is : rewritten s words len (payloadOf s words len) ≡ left
+pub record Packing (shape : Shape) (words : List ℕ) (len new : ℕ) (left : List ℕ) : Type 0 where
+  pub passes : check shape words len ≡ pass
+  pub room : wordsFor shape (length (payloadOf shape words len)) ≤ length words
+  pub length-is : wordsFor shape (length (payloadOf shape words len)) ≡ new
+  pub left-is : rewritten shape words len (payloadOf shape words len) ≡ left
 
-pub packed : (s : Shape) (words : List ℕ) (len new : ℕ) (left : List ℕ) → repack s words len ≡ (gives new, left) → Packing s words len new left
+pub packed : (shape : Shape) (words : List ℕ) (len new : ℕ) (left : List ℕ) → repack shape words len ≡ (gives new, left) → Packing shape words len new left
 unfolding repack
-packed s words len new left e =
-    let needed : ℕ = wordsFor s (length (payloadOf s words len)) in
+packed shape words len new left e =
+    let needed : ℕ = wordsFor shape (length (payloadOf shape words len)) in
     let spread = guard (ltb len needed) 19 0 in
     let last = guard (ltb (length words) needed) 14 0 in
-    let w = writes-given (check s words len ▷ spread ▷ last) words (rewritten s words len (payloadOf s words len)) needed e in
-    let a = pass-both (check s words len) (spread ▷ last) (w .0) in
+    let w = writes-given (check shape words len ▷ spread ▷ last) words (rewritten shape words len (payloadOf shape words len)) needed e in
+    let a = pass-both (check shape words len) (spread ▷ last) (w .0) in
     let b = pass-both spread last (a .1) in
     record {
       passes = a .0;

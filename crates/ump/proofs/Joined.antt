@@ -46,10 +46,10 @@ part-joined f w n p rest h k =
     (take-at (f p) (r ++ rest) w (h p k))
 
 -- the whole from its consecutive pieces of w
-pub joined-chunks : (bs : List ℕ) (w n : ℕ) → joined (λ p. take w (drop (w * p) bs)) n ≡ take (w * n) bs
+pub joined-chunks : (bytes : List ℕ) (w n : ℕ) → joined (λ p. take w (drop (w * p) bytes)) n ≡ take (w * n) bytes
 unfolding joined
-joined-chunks bs w zero = rw mul-zero
-joined-chunks bs w (suc n) = rw (joined-chunks bs w n, mul-suc) (sym (take-add (w * n) w bs))
+joined-chunks bytes w zero = rw mul-zero
+joined-chunks bytes w (suc n) = rw (joined-chunks bytes w n, mul-suc) (sym (take-add (w * n) w bytes))
 
 pub set-append-add : (xs ys : List ℕ) (i b : ℕ) → set (xs ++ ys) (length xs + i) b ≡ xs ++ set ys i b
 set-append-add [] ys i b = rw zero-add

@@ -7,6 +7,7 @@ pub mod First
 pub mod Packing
 pub mod Checks
 pub mod Message
+pub mod Depends
 pub mod Replace
 pub mod Signed
 pub mod Splicing
@@ -14,7 +15,11 @@ pub mod Moving
 pub mod Bytes
 pub mod Positions
 pub mod NotEmpty
-pub mod Setting
+pub mod HeaderKept
+pub mod BytePlaces
+pub mod ByteStored
+pub mod HeadersChanged
+pub mod Setters
 pub mod Reading
 pub mod Without
 pub mod Streaming

@@ -1,99 +1,110 @@
 -- Any packing, and so the fewest-packet form, is a valid message, whatever stands behind it. Assumes nothing.
 use mathlib.Core.Path.{_≡_, refl, sym, _∙_}
 use mathlib.Core.List.{List, _++_}
-use Prim.Native.Nat.{ℕ, zero, suc, _*_, _/_, _≤_, _<_}
-use native.Mathlib.Nat.{mul-div-right, mul-le-mul-left}
+use Prim.Native.Nat.{ℕ, zero, suc, _-_, _*_, _/_, _≤_, _<_, min}
+use native.Mathlib.Nat.{mul-suc, mul-div-right, mul-le-mul-left}
 use native.Mathlib.Omega.{arith}
-use lib.ListN.{length, length-append, length-map, length-take}
+use lib.ListN.{length, length-append, length-map, length-take, length-drop}
 use Rattle.refusal.specs.Answer.{gives}
 use Rattle.ump.specs.Word.{Below}
-use Rattle.ump.specs.Packet.{Shape, groupAt, countAt, idAt, payloadAt, joined, payload}
+use Rattle.ump.specs.Packet.{Shape, groupAt, countAt, idAt, sizeAt, payloadAt, joined, payload}
 use Rattle.ump.specs.Packing.{packs, packetsFor, wordsFor, chunk, pack}
 use Rattle.ump.specs.Limits.{mostWords}
 use Rattle.ump.specs.Check.{payloadOf, summary, checked, Valid}
-use Rattle.ump.proofs.Sizes.{words-pos, size-small, packets-pos, packets-least}
-use Rattle.ump.proofs.Packing.{length-packs, type-packs, group-packs, status-packs, count-packs, id-packs, payload-packs, length-chunk, below-chunk, joined-chunk}
+use Rattle.ump.proofs.Sizes.{words-pos, size-small, packets-pos, packets-enough, packets-fewest, packets-least}
+use Rattle.ump.proofs.Packing.{length-packs, type-packs, group-packs, status-packs, count-packs, size-packs, id-packs, payload-packs, length-chunk, below-chunk, joined-chunk}
 use Rattle.ump.proofs.Checks.{valid-passes}
 
 -- what the check answers of a valid message
-pub checked-valid : (s : Shape) (ws : List ℕ) (len : ℕ) → Valid s ws len
-    → checked s ws len ≡ gives (summary (groupAt s ws 0) (idAt s ws 0) (length (payloadOf s ws len)) len)
+pub checked-valid : (shape : Shape) (words : List ℕ) (len : ℕ) → Valid shape words len
+    → checked shape words len ≡ gives (summary (groupAt shape words 0) (idAt shape words 0) (length (payloadOf shape words len)) len)
 unfolding checked
-checked-valid s ws len v = rw (valid-passes s ws len v)
+checked-valid shape words len v = rw (valid-passes shape words len v)
 
 -- any packing is a valid message that carries its pieces
-module _ (s : Shape) (g : ℕ) (id : List ℕ) (n : ℕ) (c : ℕ → List ℕ)
-    (hg : g < 16) (ht : length id ≡ s .ids) (bt : Below 256 id) (hc : (p : ℕ) → length (c p) ≤ s .room) (bc : (p : ℕ) → Below (s .limit) (c p))
+module _ (shape : Shape) (group : ℕ) (id : List ℕ) (n : ℕ) (c : ℕ → List ℕ)
+    (hg : group < 16) (ht : length id ≡ shape .ids) (bt : Below 256 id) (hc : (p : ℕ) → length (c p) ≤ shape .room) (bc : (p : ℕ) → Below (shape .limit) (c p))
     (pn : 0 < n) (rest : List ℕ) where
-  pub payloadOf-packs : payloadOf s (packs s g id n c ++ rest) (s .words * n) ≡ joined c n
-  payloadOf-packs = rw (mul-div-right n (words-pos s)) (payload-packs s g id n c hg ht bt hc bc rest)
+  pub payloadOf-packs : payloadOf shape (packs shape group id n c ++ rest) (shape .words * n) ≡ joined c n
+  payloadOf-packs = rw (mul-div-right n (words-pos shape)) (payload-packs shape group id n c hg ht bt hc bc rest)
 
-  pub group-of-packs : groupAt s (packs s g id n c ++ rest) 0 ≡ g
-  group-of-packs = group-packs s g id n c hg ht bt hc bc rest 0 pn
+  pub group-of-packs : groupAt shape (packs shape group id n c ++ rest) 0 ≡ group
+  group-of-packs = group-packs shape group id n c hg ht bt hc bc rest 0 pn
 
-  pub id-of-packs : idAt s (packs s g id n c ++ rest) 0 ≡ id
-  id-of-packs = id-packs s g id n c hg ht bt hc bc rest 0 pn
+  pub id-of-packs : idAt shape (packs shape group id n c ++ rest) 0 ≡ id
+  id-of-packs = id-packs shape group id n c hg ht bt hc bc rest 0 pn
 
-  pub packs-valid : length (packs s g id n c ++ rest) ≤ mostWords → Valid s (packs s g id n c ++ rest) (s .words * n)
+  pub packs-valid : length (packs shape group id n c ++ rest) ≤ mostWords → Valid shape (packs shape group id n c ++ rest) (shape .words * n)
   packs-valid h =
-      let k = count-packs s g id n c hg ht bt hc bc rest in
+      let k = count-packs shape group id n c hg ht bt hc bc rest in
       record {
         short-enough = h;
-        inside = omega (arith, length-append (packs s g id n c) rest, length-packs s g id n c ht hc);
+        inside = omega (arith, length-append (packs shape group id n c) rest, length-packs shape group id n c ht hc);
         packets = n;
         some-packet = pn;
         whole = refl;
-        types = type-packs s g id n c hg ht bt hc bc rest;
-        statuses = status-packs s g id n c hg ht bt hc bc rest;
+        types = type-packs shape group id n c hg ht bt hc bc rest;
+        statuses = status-packs shape group id n c hg ht bt hc bc rest;
         counts = λ p l. (omega (arith, k p l), omega (arith, k p l, hc p));
-        groups = λ p l. group-packs s g id n c hg ht bt hc bc rest p l ∙ sym group-of-packs;
-        one-id = λ p l. id-packs s g id n c hg ht bt hc bc rest p l ∙ sym id-of-packs;
+        groups = λ p l. group-packs shape group id n c hg ht bt hc bc rest p l ∙ sym group-of-packs;
+        one-id = λ p l. id-packs shape group id n c hg ht bt hc bc rest p l ∙ sym id-of-packs;
       }
 
-  pub checked-packs : length (packs s g id n c ++ rest) ≤ mostWords
-      → checked s (packs s g id n c ++ rest) (s .words * n)
-      ≡ gives (summary g id (length (joined c n)) (s .words * n))
-  checked-packs h = checked-valid s _ _ (packs-valid h) ∙ rw (group-of-packs, id-of-packs, payloadOf-packs)
+  pub checked-packs : length (packs shape group id n c ++ rest) ≤ mostWords
+      → checked shape (packs shape group id n c ++ rest) (shape .words * n)
+      ≡ gives (summary group id (length (joined c n)) (shape .words * n))
+  checked-packs h = checked-valid shape _ _ (packs-valid h) ∙ rw (group-of-packs, id-of-packs, payloadOf-packs)
 
 -- and so is the fewest-packet form
-module _ (s : Shape) (g : ℕ) (id bs : List ℕ) (hg : g < 16) (ht : length id ≡ s .ids) (bt : Below 256 id) (bb : Below (s .limit) bs) (rest : List ℕ) where
+module _ (shape : Shape) (group : ℕ) (id bytes : List ℕ) (hg : group < 16) (ht : length id ≡ shape .ids) (bt : Below 256 id) (bb : Below (shape .limit) bytes) (rest : List ℕ) where
   abbrev n : ℕ
-  n = packetsFor s (length bs)
+  n = packetsFor shape (length bytes)
 
-  pub payloadOf-pack : payloadOf s (pack s g id bs ++ rest) (wordsFor s (length bs)) ≡ bs
+  pub payloadOf-pack : payloadOf shape (pack shape group id bytes ++ rest) (wordsFor shape (length bytes)) ≡ bytes
   unfolding pack
   payloadOf-pack =
-      payloadOf-packs s g id n (chunk s bs) hg ht bt (length-chunk s bs) (below-chunk s bs bb) (packets-pos s (length bs)) rest
-      ∙ joined-chunk s bs
+      payloadOf-packs shape group id n (chunk shape bytes) hg ht bt (length-chunk shape bytes) (below-chunk shape bytes bb) (packets-pos shape (length bytes)) rest
+      ∙ joined-chunk shape bytes
 
-  pub group-of-pack : groupAt s (pack s g id bs ++ rest) 0 ≡ g
+  pub group-of-pack : groupAt shape (pack shape group id bytes ++ rest) 0 ≡ group
   unfolding pack
-  group-of-pack = group-of-packs s g id n (chunk s bs) hg ht bt (length-chunk s bs) (below-chunk s bs bb) (packets-pos s (length bs)) rest
+  group-of-pack = group-of-packs shape group id n (chunk shape bytes) hg ht bt (length-chunk shape bytes) (below-chunk shape bytes bb) (packets-pos shape (length bytes)) rest
 
-  pub id-of-pack : idAt s (pack s g id bs ++ rest) 0 ≡ id
+  pub id-of-pack : idAt shape (pack shape group id bytes ++ rest) 0 ≡ id
   unfolding pack
-  id-of-pack = id-of-packs s g id n (chunk s bs) hg ht bt (length-chunk s bs) (below-chunk s bs bb) (packets-pos s (length bs)) rest
+  id-of-pack = id-of-packs shape group id n (chunk shape bytes) hg ht bt (length-chunk shape bytes) (below-chunk shape bytes bb) (packets-pos shape (length bytes)) rest
 
-  pub pack-valid : length (pack s g id bs ++ rest) ≤ mostWords → Valid s (pack s g id bs ++ rest) (wordsFor s (length bs))
+  pub pack-valid : length (pack shape group id bytes ++ rest) ≤ mostWords → Valid shape (pack shape group id bytes ++ rest) (wordsFor shape (length bytes))
   unfolding pack
-  pack-valid = packs-valid s g id n (chunk s bs) hg ht bt (length-chunk s bs) (below-chunk s bs bb) (packets-pos s (length bs)) rest
+  pack-valid = packs-valid shape group id n (chunk shape bytes) hg ht bt (length-chunk shape bytes) (below-chunk shape bytes bb) (packets-pos shape (length bytes)) rest
 
-  pub checked-pack : length (pack s g id bs ++ rest) ≤ mostWords
-      → checked s (pack s g id bs ++ rest) (wordsFor s (length bs))
-      ≡ gives (summary g id (length bs) (wordsFor s (length bs)))
-  checked-pack h = checked-valid s _ _ (pack-valid h) ∙ rw (group-of-pack, id-of-pack, payloadOf-pack)
+  pub checked-pack : length (pack shape group id bytes ++ rest) ≤ mostWords
+      → checked shape (pack shape group id bytes ++ rest) (wordsFor shape (length bytes))
+      ≡ gives (summary group id (length bytes) (wordsFor shape (length bytes)))
+  checked-pack h = checked-valid shape _ _ (pack-valid h) ∙ rw (group-of-pack, id-of-pack, payloadOf-pack)
+
+  -- every packet but the last is full, and the last carries what is left
+  size-of-pack : (p : ℕ) → p < n → sizeAt shape (pack shape group id bytes ++ rest) p ≡ min (shape .room) (length bytes - shape .room * p)
+  unfolding pack
+  size-of-pack p h = size-packs shape group id n (chunk shape bytes) hg ht bt (length-chunk shape bytes) (below-chunk shape bytes bb) rest p h ∙ simp (length-take, length-drop)
+
+  pub full-of-pack : (p : ℕ) → suc p < n → sizeAt shape (pack shape group id bytes ++ rest) p ≡ shape .room
+  full-of-pack p h = size-of-pack p (omega arith) ∙ omega (arith, packets-fewest shape (length bytes) p h, mul-suc (shape .room) p)
+
+  pub last-of-pack : (p : ℕ) → suc p ≡ n → sizeAt shape (pack shape group id bytes ++ rest) p ≡ length bytes - shape .room * p
+  last-of-pack p h = size-of-pack p (omega arith) ∙ omega (arith, rw (← h) at (packets-enough shape (length bytes)), mul-suc (shape .room) p)
 
 -- ---- the packing of a valid message never needs more words than it has
 
-pub length-payload : (s : Shape) (ws : List ℕ) (n : ℕ) → length (payload s ws n) ≤ s .room * n
+pub length-payload : (shape : Shape) (words : List ℕ) (n : ℕ) → length (payload shape words n) ≤ shape .room * n
 unfolding payload joined payloadAt
-length-payload s ws zero = omega arith
-length-payload s ws (suc n) =
-    simp (length-append, length-map, length-take) (omega (arith, length-payload s ws n, size-small s (countAt s ws n)))
+length-payload shape words zero = omega arith
+length-payload shape words (suc n) =
+    simp (length-append, length-map, length-take) (omega (arith, length-payload shape words n, size-small shape (countAt shape words n)))
 
-pub no-spread : (s : Shape) (ws : List ℕ) (len : ℕ) → Valid s ws len → wordsFor s (length (payloadOf s ws len)) ≤ len
-no-spread s ws len v =
-    let q : len / s .words ≡ v .packets = rw (v .whole) (mul-div-right (v .packets) (words-pos s)) in
+pub no-spread : (shape : Shape) (words : List ℕ) (len : ℕ) → Valid shape words len → wordsFor shape (length (payloadOf shape words len)) ≤ len
+no-spread shape words len v =
+    let q : len / shape .words ≡ v .packets = rw (v .whole) (mul-div-right (v .packets) (words-pos shape)) in
     rw (q, v .whole)
-    (mul-le-mul-left (s .words)
-    (packets-least s (length (payload s ws (v .packets))) (v .packets) (v .some-packet) (length-payload s ws (v .packets))))
+    (mul-le-mul-left (shape .words)
+    (packets-least shape (length (payload shape words (v .packets))) (v .packets) (v .some-packet) (length-payload shape words (v .packets))))

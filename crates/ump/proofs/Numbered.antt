@@ -46,61 +46,61 @@ status-numbered n p = go (eqb n 1) (eqb p 0) (eqb (suc p) n)
     go false false true = lit< tt
     go false false false = lit< tt
 
-by-sweep : (s : Shape) (number : ℕ → ℕ) (bad : ℕ → Bool) (n : ℕ) → ((p : ℕ) → 0 < number p) → Numbered (sweep s number bad n)
-by-sweep s number bad n h = by-guard (ltb (firstWhere bad n) n) (number (firstWhere bad n)) (s .words * firstWhere bad n) (h (firstWhere bad n))
+by-sweep : (shape : Shape) (number : ℕ → ℕ) (bad : ℕ → Bool) (n : ℕ) → ((p : ℕ) → 0 < number p) → Numbered (sweep shape number bad n)
+by-sweep shape number bad n h = by-guard (ltb (firstWhere bad n) n) (number (firstWhere bad n)) (shape .words * firstWhere bad n) (h (firstWhere bad n))
 
-packets-numbered : (s : Shape) (words : List ℕ) (n : ℕ) → Numbered (checkPackets s words n)
+packets-numbered : (shape : Shape) (words : List ℕ) (n : ℕ) → Numbered (checkPackets shape words n)
 unfolding checkPackets
-packets-numbered s words n =
-    both _ _ (by-sweep s (λ p. 5) (badType s words) n (λ p. lit< tt))
-    (both _ _ (by-sweep s (statusNumber n) (badStatus s words n) n (status-numbered n))
-    (both _ _ (by-sweep s (λ p. 10) (badCount s words) n (λ p. lit< tt))
-    (both _ _ (by-sweep s (λ p. 11) (badGroup s words) n (λ p. lit< tt)) (by-sweep s (λ p. 12) (badId s words) n (λ p. lit< tt)))))
+packets-numbered shape words n =
+    both _ _ (by-sweep shape (λ p. 5) (badType shape words) n (λ p. lit< tt))
+    (both _ _ (by-sweep shape (statusNumber n) (badStatus shape words n) n (status-numbered n))
+    (both _ _ (by-sweep shape (λ p. 10) (badCount shape words) n (λ p. lit< tt))
+    (both _ _ (by-sweep shape (λ p. 11) (badGroup shape words) n (λ p. lit< tt)) (by-sweep shape (λ p. 12) (badId shape words) n (λ p. lit< tt)))))
 
-check-numbered : (s : Shape) (words : List ℕ) (len : ℕ) → Numbered (check s words len)
+check-numbered : (shape : Shape) (words : List ℕ) (len : ℕ) → Numbered (check shape words len)
 unfolding check
-check-numbered s words len =
+check-numbered shape words len =
     both _ _ (by-guard (ltb mostWords (length words)) 1 0 (lit< tt))
     (both _ _ (by-guard (ltb (length words) len) 2 0 (lit< tt))
-    (both _ _ (by-guard (ltb len (s .words)) 3 0 (lit< tt))
-    (both _ _ (by-guard (not (eqb (len % s .words) 0)) 4 0 (lit< tt)) (packets-numbered s words (len / s .words)))))
+    (both _ _ (by-guard (ltb len (shape .words)) 3 0 (lit< tt))
+    (both _ _ (by-guard (not (eqb (len % shape .words) 0)) 4 0 (lit< tt)) (packets-numbered shape words (len / shape .words)))))
 
-checks-numbered : (s : Shape) (words : List ℕ) (len : ℕ) (numbers bytes : List ℕ) → Numbered (allChecks s words len numbers bytes)
-checks-numbered s words len numbers bytes =
-    let old : List ℕ = payloadOf s words len in
+checks-numbered : (shape : Shape) (words : List ℕ) (len : ℕ) (numbers bytes : List ℕ) → Numbered (allChecks shape words len numbers bytes)
+checks-numbered shape words len numbers bytes =
+    let old : List ℕ = payloadOf shape words len in
     let new : List ℕ = replaced old (patchesOf (editsOf numbers) bytes) in
-    both _ _ (check-numbered s words len)
+    both _ _ (check-numbered shape words len)
     (both _ _ (by-guard (badList (length old) (length bytes) numbers) 13 0 (lit< tt))
-    (both _ _ (by-guard (someOverlap 0 (editsOf numbers)) 20 0 (lit< tt)) (by-guard (ltb (length words) (wordsFor s (length new))) 14 0 (lit< tt))))
+    (both _ _ (by-guard (someOverlap 0 (editsOf numbers)) 20 0 (lit< tt)) (by-guard (ltb (length words) (wordsFor shape (length new))) 14 0 (lit< tt))))
 
-module _ (s : Shape) (words : List ℕ) (len : ℕ) where
+module _ (shape : Shape) (words : List ℕ) (len : ℕ) where
   abbrev old : List ℕ
-  old = payloadOf s words len
+  old = payloadOf shape words len
 
-  spread : Numbered (guard (ltb len (wordsFor s (length old))) 19 0)
-  spread = by-guard (ltb len (wordsFor s (length old))) 19 0 (lit< tt)
+  spread : Numbered (guard (ltb len (wordsFor shape (length old))) 19 0)
+  spread = by-guard (ltb len (wordsFor shape (length old))) 19 0 (lit< tt)
 
-  pub repack-numbered : Numbered (repack s words len .0)
+  pub repack-numbered : Numbered (repack shape words len .0)
   unfolding repack
   repack-numbered =
-      by-writes _ words _ _ (both _ _ (check-numbered s words len) (both _ _ spread (by-guard (ltb (length words) (wordsFor s (length old))) 14 0 (lit< tt))))
+      by-writes _ words _ _ (both _ _ (check-numbered shape words len) (both _ _ spread (by-guard (ltb (length words) (wordsFor shape (length old))) 14 0 (lit< tt))))
 
-  pub splice-numbered : (from to : ℕ) (bytes : List ℕ) → Numbered (splice s words len from to bytes .0)
+  pub splice-numbered : (from to : ℕ) (bytes : List ℕ) → Numbered (splice shape words len from to bytes .0)
   unfolding splice
   splice-numbered from to bytes =
       by-writes _ words _ _
-      (both _ _ (check-numbered s words len)
+      (both _ _ (check-numbered shape words len)
       (both _ _ (by-guard (ltb to from || ltb (length old) to) 13 0 (lit< tt))
-      (both _ _ spread (by-guard (ltb (length words) (wordsFor s (length (spliced old from to bytes)))) 14 0 (lit< tt)))))
+      (both _ _ spread (by-guard (ltb (length words) (wordsFor shape (length (spliced old from to bytes)))) 14 0 (lit< tt)))))
 
-  pub all-numbered : (numbers bytes : List ℕ) → Numbered (spliceAll s words len numbers bytes .0)
+  pub all-numbered : (numbers bytes : List ℕ) → Numbered (spliceAll shape words len numbers bytes .0)
   unfolding spliceAll
-  all-numbered numbers bytes = by-writes _ words _ _ (checks-numbered s words len numbers bytes)
+  all-numbered numbers bytes = by-writes _ words _ _ (checks-numbered shape words len numbers bytes)
 
-  pub origin-numbered : (numbers bytes : List ℕ) (q : ℕ) → Numbered (origin s words len numbers bytes q)
+  pub origin-numbered : (numbers bytes : List ℕ) (q : ℕ) → Numbered (origin shape words len numbers bytes q)
   unfolding origin
   origin-numbered numbers bytes q =
-      both _ _ (checks-numbered s words len numbers bytes) (both _ _ (by-guard (not (ltb q (4 * length words))) 13 0 (lit< tt)) accepted)
+      both _ _ (checks-numbered shape words len numbers bytes) (both _ _ (by-guard (not (ltb q (4 * length words))) 13 0 (lit< tt)) accepted)
 
 pub move-numbered : (done pending : Edit) (done-first : Bool) → Numbered (moveEdit done pending done-first)
 unfolding moveEdit

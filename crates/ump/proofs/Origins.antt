@@ -36,60 +36,60 @@ use Rattle.ump.proofs.Runs.{begins-at, read-at}
 -- ---- origins by a list of sources
 
 abbrev originBy : Shape → List Source → ℕ → Origin
-originBy s from q =
-    let p = q / (4 * s .words) in
-    let j = q % (4 * s .words) in
-    cond (ltb j (header s)) (headerOctet p j) (getD (map carried from) (s .room * p + (j - header s)) filler)
+originBy shape from q =
+    let p = q / (4 * shape .words) in
+    let j = q % (4 * shape .words) in
+    cond (ltb j (header shape)) (headerOctet p j) (getD (map carried from) (shape .room * p + (j - header shape)) filler)
 
 abbrev howManyBy : Shape → List Source → ℕ → (Origin → Bool) → ℕ
-howManyBy s from len test = total (λ q. cond (test (originBy s from q)) 1 0) (4 * len)
+howManyBy shape from len test = total (λ q. cond (test (originBy shape from q)) 1 0) (4 * len)
 
-module _ (s : Shape) (n : ℕ) (patches : List Patch) where
-  origin-by : (q : ℕ) → originOf s n (editsFor patches) q ≡ originBy s (sources n patches) q
+module _ (shape : Shape) (n : ℕ) (patches : List Patch) where
+  origin-by : (q : ℕ) → originOf shape n (editsFor patches) q ≡ originBy shape (sources n patches) q
   unfolding originOf
   origin-by q =
-      let p : ℕ = q / (4 * s .words) in
-      let j : ℕ = q % (4 * s .words) in
-      ap (λ (o : Origin). cond (ltb j (header s)) (headerOctet p j) o) (begins-at n patches (s .room * p + (j - header s)))
+      let p : ℕ = q / (4 * shape .words) in
+      let j : ℕ = q % (4 * shape .words) in
+      ap (λ (o : Origin). cond (ltb j (header shape)) (headerOctet p j) o) (begins-at n patches (shape .room * p + (j - header shape)))
 
-  how-many-by : (len : ℕ) (test : Origin → Bool) → howMany s n (editsFor patches) len test ≡ howManyBy s (sources n patches) len test
+  how-many-by : (len : ℕ) (test : Origin → Bool) → howMany shape n (editsFor patches) len test ≡ howManyBy shape (sources n patches) len test
   how-many-by len test = ap (λ (f : ℕ → Origin). total (λ q. cond (test (f q)) 1 0) (4 * len)) (λ d q. origin-by q d)
 
 -- ---- the law of octets
 
-module _ (s : Shape) (words : List ℕ) (len : ℕ) (patches : List Patch) (from : List Source)
-    (bb : Below (s .limit) (map (byteFrom (payloadOf s words len) patches) from))
-    (size : length (replaced (payloadOf s words len) patches) ≡ length from) where
+module _ (shape : Shape) (words : List ℕ) (len : ℕ) (patches : List Patch) (from : List Source)
+    (bb : Below (shape .limit) (map (byteFrom (payloadOf shape words len) patches) from))
+    (size : length (replaced (payloadOf shape words len) patches) ≡ length from) where
   abbrev made : List ℕ
-  made = map (byteFrom (payloadOf s words len) patches) from
+  made = map (byteFrom (payloadOf shape words len) patches) from
 
   -- each octet of the fewest-packet form is what its origin says
-  octet-from : (q : ℕ) → q < 4 * wordsFor s (length from)
-      → getD (octets (pack s (groupAt s words 0) (idAt s words 0) made)) q 0 ≡ octetFrom s words len patches q (originBy s from q)
+  octet-from : (q : ℕ) → q < 4 * wordsFor shape (length from)
+      → getD (octets (pack shape (groupAt shape words 0) (idAt shape words 0) made)) q 0 ≡ octetFrom shape words len patches q (originBy shape from q)
   unfolding octetAt
   octet-from q h =
-      let whole : ℕ = 4 * s .words in
+      let whole : ℕ = 4 * shape .words in
       let p : ℕ = q / whole in
       let j : ℕ = q % whole in
-      let some : 0 < whole = omega (arith, words-pos s) in
+      let some : 0 < whole = omega (arith, words-pos shape) in
       let l : j < whole = mod-lt q some in
       let e : whole * p + j ≡ q = div-add-mod q whole in
-      let all : 4 * wordsFor s (length from) ≡ packetsFor s (length from) * whole =
-      sym (mul-assoc 4 (s .words) (packetsFor s (length from))) ∙ mul-comm whole (packetsFor s (length from))
+      let all : 4 * wordsFor shape (length from) ≡ packetsFor shape (length from) * whole =
+      sym (mul-assoc 4 (shape .words) (packetsFor shape (length from))) ∙ mul-comm whole (packetsFor shape (length from))
       in
-      let count : length made ≡ length from = length-map from (byteFrom (payloadOf s words len) patches) in
-      let hp : p < packetsFor s (length made) = rw count (div-lt-iff-lt-mul some .1 (rw all at h)) in
-      ap (λ (x : ℕ). getD (octets (pack s (groupAt s words 0) (idAt s words 0) made)) x 0) (sym e)
-      ∙ octet-of-pack s (groupAt s words 0) (idAt s words 0) made (group-fits s words 0) (length-id s words 0) (below-id s words 0) bb p j hp l
-      ∙ getD-frame s (groupAt s words 0) (idAt s words 0) made (length-id s words 0) p j l
-      ∙ go p j (count ∙ sym size) (side j (header s))
+      let count : length made ≡ length from = length-map from (byteFrom (payloadOf shape words len) patches) in
+      let hp : p < packetsFor shape (length made) = rw count (div-lt-iff-lt-mul some .1 (rw all at h)) in
+      ap (λ (x : ℕ). getD (octets (pack shape (groupAt shape words 0) (idAt shape words 0) made)) x 0) (sym e)
+      ∙ octet-of-pack shape (groupAt shape words 0) (idAt shape words 0) made (group-fits shape words 0) (length-id shape words 0) (below-id shape words 0) bb p j hp l
+      ∙ getD-frame shape (groupAt shape words 0) (idAt shape words 0) made (length-id shape words 0) p j l
+      ∙ go p j (count ∙ sym size) (side j (header shape))
     where
-      go : (p j : ℕ) → length made ≡ length (replaced (payloadOf s words len) patches) → Side j (header s)
-          → cond (ltb j (header s)) (getD (headerOctets s (groupAt s words 0) (idAt s words 0) (length made) p) j 0) (getD made (s .room * p + (j - header s)) 0)
-          ≡ octetFrom s words len patches q (cond (ltb j (header s)) (headerOctet p j) (getD (map carried from) (s .room * p + (j - header s)) filler))
-      go p j c (under k e) = rw e (ap (λ (n : ℕ). getD (headerOctets s (groupAt s words 0) (idAt s words 0) n p) j 0) c)
+      go : (p j : ℕ) → length made ≡ length (replaced (payloadOf shape words len) patches) → Side j (header shape)
+          → cond (ltb j (header shape)) (getD (headerOctets shape (groupAt shape words 0) (idAt shape words 0) (length made) p) j 0) (getD made (shape .room * p + (j - header shape)) 0)
+          ≡ octetFrom shape words len patches q (cond (ltb j (header shape)) (headerOctet p j) (getD (map carried from) (shape .room * p + (j - header shape)) filler))
+      go p j c (under k e) = rw e (ap (λ (n : ℕ). getD (headerOctets shape (groupAt shape words 0) (idAt shape words 0) n p) j 0) c)
       go p j c (over k e) =
-          rw e (read-at (byteFrom (payloadOf s words len) patches) (octetFrom s words len patches q) (λ x. refl) refl from (s .room * p + (j - header s)))
+          rw e (read-at (byteFrom (payloadOf shape words len) patches) (octetFrom shape words len patches q) (λ x. refl) refl from (shape .room * p + (j - header shape)))
 
 -- ---- behind the message
 
@@ -114,61 +114,61 @@ octet-front m n q h =
 
 -- ---- sums over the octets of all packets: their headers, and their bytes one after the other
 
-module _ (s : Shape) (weight : ℕ → ℕ) (head : ℕ → ℕ → ℕ) (body : ℕ → ℕ)
-    (by : (p j : ℕ) → j < 4 * s .words → weight (4 * s .words * p + j) ≡ cond (ltb j (header s)) (head p j) (body (s .room * p + (j - header s)))) where
-  one-packet : (p : ℕ) → total (λ j. weight (4 * s .words * p + j)) (4 * s .words) ≡ total (head p) (header s) + total (λ i. body (s .room * p + i)) (s .room)
+module _ (shape : Shape) (weight : ℕ → ℕ) (head : ℕ → ℕ → ℕ) (body : ℕ → ℕ)
+    (by : (p j : ℕ) → j < 4 * shape .words → weight (4 * shape .words * p + j) ≡ cond (ltb j (header shape)) (head p j) (body (shape .room * p + (j - header shape)))) where
+  one-packet : (p : ℕ) → total (λ j. weight (4 * shape .words * p + j)) (4 * shape .words) ≡ total (head p) (header shape) + total (λ i. body (shape .room * p + i)) (shape .room)
   one-packet p =
-      let e : 4 * s .words ≡ header s + s .room = omega (arith, s .full) in
-      let f : ℕ → ℕ = λ j. weight (4 * s .words * p + j) in
-      let a : total f (header s) ≡ total (head p) (header s) =
-      total-cong f (head p) (header s) (λ j h. by p j (omega arith) ∙ rw (lt-ltb j (header s) h))
+      let e : 4 * shape .words ≡ header shape + shape .room = omega (arith, shape .full) in
+      let f : ℕ → ℕ = λ j. weight (4 * shape .words * p + j) in
+      let a : total f (header shape) ≡ total (head p) (header shape) =
+      total-cong f (head p) (header shape) (λ j h. by p j (omega arith) ∙ rw (lt-ltb j (header shape) h))
       in
-      let b : total (λ i. f (header s + i)) (s .room) ≡ total (λ i. body (s .room * p + i)) (s .room) =
-      total-cong (λ i. f (header s + i)) (λ i. body (s .room * p + i)) (s .room)
-      (λ i h. by p (header s + i) (omega arith) ∙ rw (le-ltb (header s + i) (header s) (omega arith)) (ap (λ (x : ℕ). body (s .room * p + x)) (omega arith)))
+      let b : total (λ i. f (header shape + i)) (shape .room) ≡ total (λ i. body (shape .room * p + i)) (shape .room) =
+      total-cong (λ i. f (header shape + i)) (λ i. body (shape .room * p + i)) (shape .room)
+      (λ i h. by p (header shape + i) (omega arith) ∙ rw (le-ltb (header shape + i) (header shape) (omega arith)) (ap (λ (x : ℕ). body (shape .room * p + x)) (omega arith)))
       in
-      ap (total f) e ∙ total-split f (header s) (s .room) ∙ rw (a, b)
+      ap (total f) e ∙ total-split f (header shape) (shape .room) ∙ rw (a, b)
 
-  all-packets : (k : ℕ) → total weight (4 * s .words * k) ≡ total (λ p. total (head p) (header s)) k + total body (s .room * k)
+  all-packets : (k : ℕ) → total weight (4 * shape .words * k) ≡ total (λ p. total (head p) (header shape)) k + total body (shape .room * k)
   unfolding total
-  all-packets zero = rw (mul-zero (4 * s .words), mul-zero (s .room))
+  all-packets zero = rw (mul-zero (4 * shape .words), mul-zero (shape .room))
   all-packets (suc k) =
-      rw (mul-suc (4 * s .words) k, mul-suc (s .room) k)
+      rw (mul-suc (4 * shape .words) k, mul-suc (shape .room) k)
       (omega (
         arith,
-        total-split weight (4 * s .words * k) (4 * s .words),
-        total-split body (s .room * k) (s .room),
+        total-split weight (4 * shape .words * k) (4 * shape .words),
+        total-split body (shape .room * k) (shape .room),
         all-packets k,
         one-packet k,
       ))
 
 -- ---- how often an octet comes from a source
 
-module _ (s : Shape) (from : List Source) (weight : Origin → ℕ) where
+module _ (shape : Shape) (from : List Source) (weight : Origin → ℕ) where
   abbrev needed : ℕ
-  needed = packetsFor s (length from)
+  needed = packetsFor shape (length from)
 
-  at-octet : (p j : ℕ) → j < 4 * s .words
-      → weight (originBy s from (4 * s .words * p + j))
-      ≡ cond (ltb j (header s)) (weight (headerOctet p j)) (weight (getD (map carried from) (s .room * p + (j - header s)) filler))
+  at-octet : (p j : ℕ) → j < 4 * shape .words
+      → weight (originBy shape from (4 * shape .words * p + j))
+      ≡ cond (ltb j (header shape)) (weight (headerOctet p j)) (weight (getD (map carried from) (shape .room * p + (j - header shape)) filler))
   at-octet p j h =
-      let whole : ℕ = 4 * s .words in
-      let some : 0 < whole = omega (arith, words-pos s) in
+      let whole : ℕ = 4 * shape .words in
+      let some : 0 < whole = omega (arith, words-pos shape) in
       let d : (whole * p + j) / whole ≡ p = mul-add-div some p j ∙ ap (λ (y : ℕ). p + y) (div-eq-of-lt h) ∙ omega arith in
       let m : (whole * p + j) % whole ≡ j = mul-add-mod-self-left whole p j ∙ mod-eq-of-lt h in
-      rw (d, m) (go (side j (header s)))
+      rw (d, m) (go (side j (header shape)))
     where
-      go : Side j (header s)
-          → weight (cond (ltb j (header s)) (headerOctet p j) (getD (map carried from) (s .room * p + (j - header s)) filler))
-          ≡ cond (ltb j (header s)) (weight (headerOctet p j)) (weight (getD (map carried from) (s .room * p + (j - header s)) filler))
+      go : Side j (header shape)
+          → weight (cond (ltb j (header shape)) (headerOctet p j) (getD (map carried from) (shape .room * p + (j - header shape)) filler))
+          ≡ cond (ltb j (header shape)) (weight (headerOctet p j)) (weight (getD (map carried from) (shape .room * p + (j - header shape)) filler))
       go (under l e) = rw e
       go (over l e) = rw e
 
-  all-octets : total (λ q. weight (originBy s from q)) (4 * wordsFor s (length from))
-      ≡ total (λ p. total (λ j. weight (headerOctet p j)) (header s)) needed + total (λ i. weight (getD (map carried from) i filler)) (s .room * needed)
+  all-octets : total (λ q. weight (originBy shape from q)) (4 * wordsFor shape (length from))
+      ≡ total (λ p. total (λ j. weight (headerOctet p j)) (header shape)) needed + total (λ i. weight (getD (map carried from) i filler)) (shape .room * needed)
   all-octets =
-      ap (total (λ q. weight (originBy s from q))) (sym (mul-assoc 4 (s .words) needed))
-      ∙ all-packets s (λ q. weight (originBy s from q)) (λ p j. weight (headerOctet p j)) (λ i. weight (getD (map carried from) i filler)) at-octet needed
+      ap (total (λ q. weight (originBy shape from q))) (sym (mul-assoc 4 (shape .words) needed))
+      ∙ all-packets shape (λ q. weight (originBy shape from q)) (λ p j. weight (headerOctet p j)) (λ i. weight (getD (map carried from) i filler)) at-octet needed
 
 all-hits : (x : Source) (ss : List Source) (n : ℕ) → length ss ≤ n → total (λ i. one (isFrom x (getD (map carried ss) i filler))) n ≡ count x ss
 unfolding count
@@ -195,40 +195,40 @@ rest-filler (y ∷ ss) (suc i) = go (side i (length ss)) (side (suc i) (suc (len
     go (over l e) (over m f) ih = rw f (rw e at ih)
 
 -- as many octets of the message come from there
-octets-count : (x : Source) (s : Shape) (from : List Source) → howManyBy s from (wordsFor s (length from)) (isFrom x) ≡ count x from
-octets-count x s from =
-    let k : ℕ = packetsFor s (length from) in
-    all-octets s from (λ o. one (isFrom x o))
+octets-count : (x : Source) (shape : Shape) (from : List Source) → howManyBy shape from (wordsFor shape (length from)) (isFrom x) ≡ count x from
+octets-count x shape from =
+    let k : ℕ = packetsFor shape (length from) in
+    all-octets shape from (λ o. one (isFrom x o))
     ∙ omega (
       arith,
-      total-zero (λ p. total (λ j. 0) (header s)) k (λ p. total-zero (λ j. 0) (header s) (λ j. refl)),
-      all-hits x from (s .room * k) (packets-enough s (length from)),
+      total-zero (λ p. total (λ j. 0) (header shape)) k (λ p. total-zero (λ j. 0) (header shape) (λ j. refl)),
+      all-hits x from (shape .room * k) (packets-enough shape (length from)),
     )
 
-header-octets : (s : Shape) (from : List Source) → howManyBy s from (wordsFor s (length from)) isHeader ≡ header s * packetsFor s (length from)
-header-octets s from =
-    let k : ℕ = packetsFor s (length from) in
-    all-octets s from (λ o. one (isHeader o))
+header-octets : (shape : Shape) (from : List Source) → howManyBy shape from (wordsFor shape (length from)) isHeader ≡ header shape * packetsFor shape (length from)
+header-octets shape from =
+    let k : ℕ = packetsFor shape (length from) in
+    all-octets shape from (λ o. one (isHeader o))
     ∙ omega (
       arith,
-      total-zero (λ i. one (isHeader (getD (map carried from) i filler))) (s .room * k) (no-headers from),
-      total-cong (λ p. total (λ j. 1) (header s)) (λ p. header s) k (λ p l. total-const 1 (header s) ∙ omega arith),
-      total-const (header s) k,
+      total-zero (λ i. one (isHeader (getD (map carried from) i filler))) (shape .room * k) (no-headers from),
+      total-cong (λ p. total (λ j. 1) (header shape)) (λ p. header shape) k (λ p l. total-const 1 (header shape) ∙ omega arith),
+      total-const (header shape) k,
     )
 
-filler-octets : (s : Shape) (from : List Source)
-    → howManyBy s from (wordsFor s (length from)) isFiller + length from ≡ s .room * packetsFor s (length from)
-filler-octets s from =
-    let k : ℕ = packetsFor s (length from) in
+filler-octets : (shape : Shape) (from : List Source)
+    → howManyBy shape from (wordsFor shape (length from)) isFiller + length from ≡ shape .room * packetsFor shape (length from)
+filler-octets shape from =
+    let k : ℕ = packetsFor shape (length from) in
     let f : ℕ → ℕ = λ i. one (isFiller (getD (map carried from) i filler)) in
     omega (
       arith,
-      all-octets s from (λ o. one (isFiller o)),
-      total-zero (λ p. total (λ j. 0) (header s)) k (λ p. total-zero (λ j. 0) (header s) (λ j. refl)),
-      total-add f (below (length from)) (s .room * k),
-      total-cong (λ i. f i + below (length from) i) (λ i. 1) (s .room * k) (λ i h. rest-filler from i),
-      total-const 1 (s .room * k),
-      total-below (length from) (s .room * k) (packets-enough s (length from)),
+      all-octets shape from (λ o. one (isFiller o)),
+      total-zero (λ p. total (λ j. 0) (header shape)) k (λ p. total-zero (λ j. 0) (header shape) (λ j. refl)),
+      total-add f (below (length from)) (shape .room * k),
+      total-cong (λ i. f i + below (length from) i) (λ i. 1) (shape .room * k) (λ i h. rest-filler from i),
+      total-const 1 (shape .room * k),
+      total-below (length from) (shape .room * k) (packets-enough shape (length from)),
     )
 
 same-self : (source : Source) → sameSource source source ≡ true
@@ -237,22 +237,22 @@ same-self (editByte k j) = rw (eq-eqb k k refl, eq-eqb j j refl)
 
 -- Each byte comes exactly once: of a message whose bytes come from `sources`, one octet for each byte of the dump that stands in no
 -- range, none for one in a range or past the dump's end; one for each byte of each patch, and none else.
-module _ (s : Shape) (size : ℕ) (patches : List Patch) (apart : Apart patches size) where
+module _ (shape : Shape) (size : ℕ) (patches : List Patch) (apart : Apart patches size) where
   abbrev from : List Source
   from = sources size patches
 
-  kept-once : (i : ℕ) → i < size → ((k : ℕ) → k < length patches → inRange (patchAt patches k) i ≡ false) → howManyBy s from (wordsFor s (length from)) (isFrom (dumpByte i)) ≡ 1
+  kept-once : (i : ℕ) → i < size → ((k : ℕ) → k < length patches → inRange (patchAt patches k) i ≡ false) → howManyBy shape from (wordsFor shape (length from)) (isFrom (dumpByte i)) ≡ 1
   kept-once i h out =
       let m : ℕ = length patches in
       let none : total (λ k. one (inRange (patchAt patches k) i)) m ≡ total (λ k. 0) m =
       total-cong (λ k. one (inRange (patchAt patches k) i)) (λ k. 0) m (λ k l. rw (out k l))
       in
-      octets-count (dumpByte i) s from
+      octets-count (dumpByte i) shape from
       ∙ omega (arith, none, total-zero (λ k. 0) m (λ k. refl), rw (lt-ltb i size h) at (dump-once size patches apart i))
 
-  cut-never : (i k : ℕ) → k < length patches → inRange (patchAt patches k) i ≡ true → howManyBy s from (wordsFor s (length from)) (isFrom (dumpByte i)) ≡ 0
+  cut-never : (i k : ℕ) → k < length patches → inRange (patchAt patches k) i ≡ true → howManyBy shape from (wordsFor shape (length from)) (isFrom (dumpByte i)) ≡ 0
   cut-never i k h e =
-      octets-count (dumpByte i) s from
+      octets-count (dumpByte i) shape from
       ∙ go (side i size) (dump-once size patches apart i)
       (rw e at (total-ge (λ l. one (inRange (patchAt patches l) i)) (length patches) k h))
     where
@@ -260,19 +260,19 @@ module _ (s : Shape) (size : ℕ) (patches : List Patch) (apart : Apart patches 
       go (under l f) e t = omega (arith, rw f at e)
       go (over l f) e t = omega (arith, rw f at e)
 
-  patch-octet-once : (k j : ℕ) → k < length patches → j < length (patchAt patches k .bytes) → howManyBy s from (wordsFor s (length from)) (isFrom (editByte k j)) ≡ 1
+  patch-octet-once : (k j : ℕ) → k < length patches → j < length (patchAt patches k .bytes) → howManyBy shape from (wordsFor shape (length from)) (isFrom (editByte k j)) ≡ 1
   patch-octet-once k j h l =
-      octets-count (editByte k j) s from ∙ patch-once size patches apart k j ∙ rw (lt-ltb k (length patches) h, lt-ltb j (length (patchAt patches k .bytes)) l)
+      octets-count (editByte k j) shape from ∙ patch-once size patches apart k j ∙ rw (lt-ltb k (length patches) h, lt-ltb j (length (patchAt patches k .bytes)) l)
 
-  some-octet : (source : Source) (q : ℕ) → q < 4 * wordsFor s (length from) → originBy s from q ≡ carried source → 1 ≤ howManyBy s from (wordsFor s (length from)) (isFrom source)
-  some-octet source q h e = rw (e, same-self source) at (total-ge (λ r. one (isFrom source (originBy s from r))) (4 * wordsFor s (length from)) q h)
+  some-octet : (source : Source) (q : ℕ) → q < 4 * wordsFor shape (length from) → originBy shape from q ≡ carried source → 1 ≤ howManyBy shape from (wordsFor shape (length from)) (isFrom source)
+  some-octet source q h e = rw (e, same-self source) at (total-ge (λ r. one (isFrom source (originBy shape from r))) (4 * wordsFor shape (length from)) q h)
 
   -- and each octet that is neither header nor filler comes from such a byte
-  pub within : (source : Source) (q : ℕ) → q < 4 * wordsFor s (length from) → originBy s from q ≡ carried source → Within size patches source
+  pub within : (source : Source) (q : ℕ) → q < 4 * wordsFor shape (length from) → originBy shape from q ≡ carried source → Within size patches source
   within (dumpByte i) q h e = (inside (side i size) (dump-once size patches apart i), λ k l. out k l (inRange (patchAt patches k) i) refl)
     where
       some : 1 ≤ count (dumpByte i) from
-      some = rw (octets-count (dumpByte i) s from) at (some-octet (dumpByte i) q h e)
+      some = rw (octets-count (dumpByte i) shape from) at (some-octet (dumpByte i) q h e)
 
       inside : Side i size → count (dumpByte i) from + total (λ k. one (inRange (patchAt patches k) i)) (length patches) ≡ below size i → i < size
       inside (under l f) d = l
@@ -282,10 +282,10 @@ module _ (s : Shape) (size : ℕ) (patches : List Patch) (apart : Apart patches 
       out k l true f = absurd (omega (arith, cut-never i k l f, some-octet (dumpByte i) q h e))
       out k l false f = refl
   within (editByte k j) q h e =
-      go (side k (length patches)) (side j (length (patchAt patches k .bytes))) (octets-count (editByte k j) s from ∙ patch-once size patches apart k j)
+      go (side k (length patches)) (side j (length (patchAt patches k .bytes))) (octets-count (editByte k j) shape from ∙ patch-once size patches apart k j)
     where
       go : Side k (length patches) → Side j (length (patchAt patches k .bytes))
-          → howManyBy s from (wordsFor s (length from)) (isFrom (editByte k j)) ≡ cond (ltb k (length patches)) (below (length (patchAt patches k .bytes)) j) 0
+          → howManyBy shape from (wordsFor shape (length from)) (isFrom (editByte k j)) ≡ cond (ltb k (length patches)) (below (length (patchAt patches k .bytes)) j) 0
           → (k < length patches) × (j < length (patchAt patches k .bytes))
       go (under l f) (under m g) d = (l, m)
       go (under l f) (over m g) d = absurd (omega (arith, rw (f, g) at d, some-octet (editByte k j) q h e))
@@ -309,11 +309,11 @@ below-replaced m bytes patches b small =
     (below-drop m (endBefore patches k) _ (below-take m (patchAt patches k .from) bytes b)) (small k h)))
     (below-drop m (endBefore patches (length patches)) bytes b)
 
-module _ (s : Shape) (words : List ℕ) (len : ℕ) (patches : List Patch) (most : ℕ) (left : List ℕ) (new : ℕ)
-    (fewest : Fewest s (groupAt s words 0) (idAt s words 0) (replaced (payloadOf s words len) patches) (length words) left new)
-    (apart : Apart patches (length (payloadOf s words len))) (behind : Behind words most left new) where
+module _ (shape : Shape) (words : List ℕ) (len : ℕ) (patches : List Patch) (most : ℕ) (left : List ℕ) (new : ℕ)
+    (fewest : Fewest shape (groupAt shape words 0) (idAt shape words 0) (replaced (payloadOf shape words len) patches) (length words) left new)
+    (apart : Apart patches (length (payloadOf shape words len))) (behind : Behind words most left new) where
   abbrev old : List ℕ
-  old = payloadOf s words len
+  old = payloadOf shape words len
 
   abbrev sourced : List Source
   sourced = sources (length old) patches
@@ -324,60 +324,60 @@ module _ (s : Shape) (words : List ℕ) (len : ℕ) (patches : List Patch) (most
   size-is : length (replaced old patches) ≡ length sourced
   size-is = ap length new-is ∙ length-map sourced (byteFrom old patches)
 
-  words-is : new ≡ wordsFor s (length sourced)
-  words-is = fewest .length-is ∙ ap (wordsFor s) size-is
+  words-is : new ≡ wordsFor shape (length sourced)
+  words-is = fewest .length-is ∙ ap (wordsFor shape) size-is
 
-  below-new : Below (s .limit) (map (byteFrom old patches) sourced)
-  below-new = rw new-is at (rw (fewest .holds .carries) at (below-payload s left (new / s .words)))
+  below-new : Below (shape .limit) (map (byteFrom old patches) sourced)
+  below-new = rw new-is at (rw (fewest .holds .carries) at (below-payload shape left (new / shape .words)))
 
-  in-message : (q : ℕ) → q < 4 * new → getD (octets left) q 0 ≡ octetFrom s words len patches q (originOf s (length old) (editsFor patches) q)
+  in-message : (q : ℕ) → q < 4 * new → getD (octets left) q 0 ≡ octetFrom shape words len patches q (originOf shape (length old) (editsFor patches) q)
   in-message q h =
       octet-front left new q h
-      ∙ ap (λ (m : List ℕ). getD (octets m) q 0) (fewest .packed ∙ ap (pack s (groupAt s words 0) (idAt s words 0)) new-is)
-      ∙ octet-from s words len patches sourced below-new size-is q (rw words-is at h)
-      ∙ ap (octetFrom s words len patches q) (sym (origin-by s (length old) patches q))
+      ∙ ap (λ (m : List ℕ). getD (octets m) q 0) (fewest .packed ∙ ap (pack shape (groupAt shape words 0) (idAt shape words 0)) new-is)
+      ∙ octet-from shape words len patches sourced below-new size-is q (rw words-is at h)
+      ∙ ap (octetFrom shape words len patches q) (sym (origin-by shape (length old) patches q))
 
-  octet-lent : (q : ℕ) → getD (octets left) q 0 ≡ octetFrom s words len patches q (originIn s (length old) (editsFor patches) new most q)
+  octet-lent : (q : ℕ) → getD (octets left) q 0 ≡ octetFrom shape words len patches q (originIn shape (length old) (editsFor patches) new most q)
   unfolding originIn
   octet-lent q = go (side q (4 * new)) (side q (4 * most))
     where
       go : Side q (4 * new) → Side q (4 * most)
           → getD (octets left) q 0
-          ≡ octetFrom s words len patches q (cond (ltb q (4 * new)) (originOf s (length old) (editsFor patches) q) (cond (ltb q (4 * most)) zeroed untouched))
+          ≡ octetFrom shape words len patches q (cond (ltb q (4 * new)) (originOf shape (length old) (editsFor patches) q) (cond (ltb q (4 * most)) zeroed untouched))
       go (under h e) y = rw e (in-message q h)
       go (over h e) (under l f) = rw (e, f) ((rw f at (octet-behind words most left new behind q h)))
       go (over h e) (over l f) = rw (e, f) ((rw f at (octet-behind words most left new behind q h)))
 
-  counted : (test : Origin → Bool) → howMany s (length old) (editsFor patches) new test ≡ howManyBy s sourced (wordsFor s (length sourced)) test
-  counted test = how-many-by s (length old) patches new test ∙ ap (λ (n : ℕ). howManyBy s sourced n test) words-is
+  counted : (test : Origin → Bool) → howMany shape (length old) (editsFor patches) new test ≡ howManyBy shape sourced (wordsFor shape (length sourced)) test
+  counted test = how-many-by shape (length old) patches new test ∙ ap (λ (n : ℕ). howManyBy shape sourced n test) words-is
 
-  pub traced : Traced s words len patches most left new
+  pub traced : Traced shape words len patches most left new
   traced =
       record {
         lent = fewest .holds .buffer;
         needed = fewest .length-is;
         octet = λ q h. octet-lent q;
-        within = λ q source h e. within s (length old) patches apart source q (rw words-is at h) (sym (origin-by s (length old) patches q) ∙ e);
+        within = λ q source h e. within shape (length old) patches apart source q (rw words-is at h) (sym (origin-by shape (length old) patches q) ∙ e);
         once = λ source w. counted (isFrom source) ∙ go source w;
-        headers = counted isHeader ∙ header-octets s sourced ∙ ap (λ (n : ℕ). header s * packetsFor s n) (sym size-is);
-        fillers = rw (counted isFiller, size-is) (filler-octets s sourced);
+        headers = counted isHeader ∙ header-octets shape sourced ∙ ap (λ (n : ℕ). header shape * packetsFor shape n) (sym size-is);
+        fillers = rw (counted isFiller, size-is) (filler-octets shape sourced);
       }
     where
-      go : (source : Source) → Within (length old) patches source → howManyBy s sourced (wordsFor s (length sourced)) (isFrom source) ≡ 1
-      go (dumpByte i) w = kept-once s (length old) patches apart i (w .0) (w .1)
-      go (editByte k j) w = patch-octet-once s (length old) patches apart k j (w .0) (w .1)
+      go : (source : Source) → Within (length old) patches source → howManyBy shape sourced (wordsFor shape (length sourced)) (isFrom source) ≡ 1
+      go (dumpByte i) w = kept-once shape (length old) patches apart i (w .0) (w .1)
+      go (editByte k j) w = patch-octet-once shape (length old) patches apart k j (w .0) (w .1)
 
 -- ---- a message rewritten with the patches done
 
-pub rewritten-traced : (s : Shape) (words : List ℕ) (len : ℕ) (patches : List Patch) → check s words len ≡ pass → Apart patches (length (payloadOf s words len))
-    → ((k : ℕ) → k < length patches → Below (s .limit) (patchAt patches k .bytes))
-    → wordsFor s (length (replaced (payloadOf s words len) patches)) ≤ length words
-    → Traced s words len patches len (rewritten s words len (replaced (payloadOf s words len) patches)) (wordsFor s (length (replaced (payloadOf s words len) patches)))
-rewritten-traced s words len patches passes apart small room =
-    let old : List ℕ = payloadOf s words len in
-    traced s words len patches len (rewritten s words len (replaced old patches)) (wordsFor s (length (replaced old patches)))
-    (rewritten-is-fewest s words len (replaced old patches) passes (below-replaced (s .limit) old patches (below-payload s words (len / s .words)) small) room)
-    apart (rewritten-behind s words len (replaced old patches))
+pub rewritten-traced : (shape : Shape) (words : List ℕ) (len : ℕ) (patches : List Patch) → check shape words len ≡ pass → Apart patches (length (payloadOf shape words len))
+    → ((k : ℕ) → k < length patches → Below (shape .limit) (patchAt patches k .bytes))
+    → wordsFor shape (length (replaced (payloadOf shape words len) patches)) ≤ length words
+    → Traced shape words len patches len (rewritten shape words len (replaced (payloadOf shape words len) patches)) (wordsFor shape (length (replaced (payloadOf shape words len) patches)))
+rewritten-traced shape words len patches passes apart small room =
+    let old : List ℕ = payloadOf shape words len in
+    traced shape words len patches len (rewritten shape words len (replaced old patches)) (wordsFor shape (length (replaced old patches)))
+    (rewritten-is-fewest shape words len (replaced old patches) passes (below-replaced (shape .limit) old patches (below-payload shape words (len / shape .words)) small) room)
+    apart (rewritten-behind shape words len (replaced old patches))
 
 -- ---- one splice is a list of one
 
@@ -401,16 +401,16 @@ single-apart from to n bytes h k =
       inside = k;
     }
 
-pub splice-traced : (s : Shape) (words : List ℕ) (len from to : ℕ) (bytes : List ℕ) (change : Spliced) (left : List ℕ)
-    → splice s words len from to bytes ≡ (gives change, left) → Below (s .limit) bytes
-    → Traced s words len (single from to bytes) len left (change .length)
-splice-traced s words len from to bytes change left done small =
-    let k = known s words len from to bytes change left done in
-    let old : List ℕ = payloadOf s words len in
+pub splice-traced : (shape : Shape) (words : List ℕ) (len from to : ℕ) (bytes : List ℕ) (change : Spliced) (left : List ℕ)
+    → splice shape words len from to bytes ≡ (gives change, left) → Below (shape .limit) bytes
+    → Traced shape words len (single from to bytes) len left (change .length)
+splice-traced shape words len from to bytes change left done small =
+    let k = known shape words len from to bytes change left done in
+    let old : List ℕ = payloadOf shape words len in
     let e : replaced old (single from to bytes) ≡ spliced old from to bytes = replaced-single old from to bytes in
     rw (← (k .length-is), ← (k .left-is), ← e)
-    (rewritten-traced s words len (single from to bytes) (k .passes) (single-apart from to (length old) bytes (k .forward) (k .inside))
-    (only (λ j. Below (s .limit) (patchAt (single from to bytes) j .bytes)) small) (rw e (k .room)))
+    (rewritten-traced shape words len (single from to bytes) (k .passes) (single-apart from to (length old) bytes (k .forward) (k .inside))
+    (only (λ j. Below (shape .limit) (patchAt (single from to bytes) j .bytes)) small) (rw e (k .room)))
 
 -- ---- packing is a list of none
 
@@ -421,9 +421,9 @@ replaced-none old = refl
 none-apart : (n : ℕ) → Apart [] n
 none-apart n = record { after = λ i h. absurd (omega arith); forward = λ i h. absurd (omega arith); inside = omega arith }
 
-pub repack-traced : (s : Shape) (words : List ℕ) (len new : ℕ) (left : List ℕ) → repack s words len ≡ (gives new, left) → Traced s words len [] len left new
-repack-traced s words len new left done =
-    let k = packed s words len new left done in
-    let e : replaced (payloadOf s words len) [] ≡ payloadOf s words len = replaced-none (payloadOf s words len) in
+pub repack-traced : (shape : Shape) (words : List ℕ) (len new : ℕ) (left : List ℕ) → repack shape words len ≡ (gives new, left) → Traced shape words len [] len left new
+repack-traced shape words len new left done =
+    let k = packed shape words len new left done in
+    let e : replaced (payloadOf shape words len) [] ≡ payloadOf shape words len = replaced-none (payloadOf shape words len) in
     rw (← (k .length-is), ← (k .left-is), ← e)
-    (rewritten-traced s words len [] (k .passes) (none-apart (length (payloadOf s words len))) (λ i h. absurd (omega arith)) (rw e (k .room)))
+    (rewritten-traced shape words len [] (k .passes) (none-apart (length (payloadOf shape words len))) (λ i h. absurd (omega arith)) (rw e (k .room)))

@@ -9,27 +9,27 @@ use Rattle.ump.specs.Packet.{Shape, sizeAt, payloadAt, byteAt, joined, p
 use Rattle.ump.proofs.Joined.{joined-around, joined-add}
 use Rattle.ump.proofs.Bytes.{length-payloadAt, getD-payloadAt}
 
-module _ (s : Shape) (ws : List ℕ) where
+module _ (shape : Shape) (words : List ℕ) where
   -- with one packet more
-  pub payload-more : (p : ℕ) → s .words * p + s .words ≤ length ws → length (payload s ws (suc p)) ≡ length (payload s ws p) + sizeAt s ws p
+  pub payload-more : (p : ℕ) → shape .words * p + shape .words ≤ length words → length (payload shape words (suc p)) ≡ length (payload shape words p) + sizeAt shape words p
   unfolding payload joined
-  payload-more p there = length-append (payload s ws p) (payloadAt s ws p) ∙ ap (λ (n : ℕ). length (payload s ws p) + n) (length-payloadAt s ws p there)
+  payload-more p there = length-append (payload shape words p) (payloadAt shape words p) ∙ ap (λ (n : ℕ). length (payload shape words p) + n) (length-payloadAt shape words p there)
 
   -- with more packets it is no shorter
-  pub payload-mono : (p n : ℕ) → p ≤ n → length (payload s ws p) ≤ length (payload s ws n)
+  pub payload-mono : (p n : ℕ) → p ≤ n → length (payload shape words p) ≤ length (payload shape words n)
   unfolding payload
   payload-mono p n h =
       let e : n ≡ p + (n - p) = omega arith in
-      let rest = joined (λ i. payloadAt s ws (p + i)) (n - p) in
-      omega (arith, ap (λ (k : ℕ). length (joined (payloadAt s ws) k)) e, ap length (joined-add (payloadAt s ws) p (n - p)), length-append (joined (payloadAt s ws) p) rest)
+      let rest = joined (λ i. payloadAt shape words (p + i)) (n - p) in
+      omega (arith, ap (λ (k : ℕ). length (joined (payloadAt shape words) k)) e, ap length (joined-add (payloadAt shape words) p (n - p)), length-append (joined (payloadAt shape words) p) rest)
 
   -- byte i of packet p, in the payload of all
-  pub payload-at : (p n i : ℕ) → p < n → s .words * p + s .words ≤ length ws → i < sizeAt s ws p → getD (payload s ws n) (length (payload s ws p) + i) 0 ≡ byteAt s ws p i
+  pub payload-at : (p n i : ℕ) → p < n → shape .words * p + shape .words ≤ length words → i < sizeAt shape words p → getD (payload shape words n) (length (payload shape words p) + i) 0 ≡ byteAt shape words p i
   unfolding payload
   payload-at p n i h there k =
-      let before = joined (payloadAt s ws) p in
-      let rest = joined (λ q. payloadAt s ws (suc p + q)) (n - suc p) in
-      ap (λ (l : List ℕ). getD l (length before + i) 0) (joined-around (payloadAt s ws) n p h)
-      ∙ getD-append-add before (payloadAt s ws p ++ rest) i 0
-      ∙ List·getD-append (payloadAt s ws p) rest 0 i (omega (arith, length-payloadAt s ws p there))
-      ∙ getD-payloadAt s ws p there i k
+      let before = joined (payloadAt shape words) p in
+      let rest = joined (λ q. payloadAt shape words (suc p + q)) (n - suc p) in
+      ap (λ (l : List ℕ). getD l (length before + i) 0) (joined-around (payloadAt shape words) n p h)
+      ∙ getD-append-add before (payloadAt shape words p ++ rest) i 0
+      ∙ List·getD-append (payloadAt shape words p) rest 0 i (omega (arith, length-payloadAt shape words p there))
+      ∙ getD-payloadAt shape words p there i k

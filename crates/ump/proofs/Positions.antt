@@ -22,12 +22,12 @@ use Rattle.ump.proofs.First.{Side, under, over, side}
 
 -- octet q of packet p
 unfoldable pub octetAt : Shape → ℕ → List ℕ → ℕ → (ℕ → ℕ) → ℕ → ℕ → ℕ
-octetAt s g id n f p q = cond (ltb q (header s)) (getD (headerOctets s g id n p) q 0) (f (s .room * p + (q - header s)))
+octetAt shape group id n f p q = cond (ltb q (header shape)) (getD (headerOctets shape group id n p) q 0) (f (shape .room * p + (q - header shape)))
 
 -- word k of the message
 unfoldable pub wordAt : Shape → ℕ → List ℕ → ℕ → (ℕ → ℕ) → ℕ → ℕ
-wordAt s g id n f k =
-    let o : ℕ → ℕ = λ j. octetAt s g id n f (k / s .words) (4 * (k % s .words) + j) in
+wordAt shape group id n f k =
+    let o : ℕ → ℕ = λ j. octetAt shape group id n f (k / shape .words) (4 * (k % shape .words) + j) in
     word (o 0) (o 1) (o 2) (o 3)
 
 -- ---- they are those of the fewest-packet form
@@ -42,129 +42,129 @@ getD-padded [] k i = getD-zeros k i
 getD-padded (x ∷ xs) k zero = refl
 getD-padded (x ∷ xs) k (suc i) = getD-padded xs k i
 
-module _ (s : Shape) (g : ℕ) (id bs : List ℕ) (hid : length id ≡ s .ids) where
+module _ (shape : Shape) (group : ℕ) (id bytes : List ℕ) (hid : length id ≡ shape .ids) where
   abbrev size : ℕ
-  size = length bs
+  size = length bytes
 
   abbrev status : ℕ → ℕ
-  status p = statusFor (packetsFor s size) p
+  status p = statusFor (packetsFor shape size) p
 
-  length-head : (p : ℕ) → length (headerOctets s g id size p) ≡ header s
+  length-head : (p : ℕ) → length (headerOctets shape group id size p) ≡ header shape
   length-head p = omega arith
 
-  size-chunk : (p : ℕ) → length (chunk s bs p) ≡ min (s .room) (size - s .room * p)
+  size-chunk : (p : ℕ) → length (chunk shape bytes p) ≡ min (shape .room) (size - shape .room * p)
   size-chunk p = simp (length-take, length-drop)
 
   pub frame-split : (p : ℕ)
-      → frame s (status p) g id (chunk s bs p) ≡ headerOctets s g id size p ++ (chunk s bs p ++ replicate (s .room - length (chunk s bs p)) 0)
+      → frame shape (status p) group id (chunk shape bytes p) ≡ headerOctets shape group id size p ++ (chunk shape bytes p ++ replicate (shape .room - length (chunk shape bytes p)) 0)
   unfolding frame
   frame-split p = rw (size-chunk p)
 
-  pub getD-frame : (p q : ℕ) → q < 4 * s .words → getD (frame s (status p) g id (chunk s bs p)) q 0 ≡ octetAt s g id size (λ i. getD bs i 0) p q
+  pub getD-frame : (p q : ℕ) → q < 4 * shape .words → getD (frame shape (status p) group id (chunk shape bytes p)) q 0 ≡ octetAt shape group id size (λ i. getD bytes i 0) p q
   unfolding octetAt
-  getD-frame p q h = rw (frame-split p) (go (side q (header s)))
+  getD-frame p q h = rw (frame-split p) (go (side q (header shape)))
     where
-      go : Side q (header s)
-          → getD (headerOctets s g id size p ++ (chunk s bs p ++ replicate (s .room - length (chunk s bs p)) 0)) q 0
-          ≡ cond (ltb q (header s)) (getD (headerOctets s g id size p) q 0) (getD bs (s .room * p + (q - header s)) 0)
-      go (under l e) = rw e (List·getD-append (headerOctets s g id size p) _ 0 q (omega (arith, length-head p)))
+      go : Side q (header shape)
+          → getD (headerOctets shape group id size p ++ (chunk shape bytes p ++ replicate (shape .room - length (chunk shape bytes p)) 0)) q 0
+          ≡ cond (ltb q (header shape)) (getD (headerOctets shape group id size p) q 0) (getD bytes (shape .room * p + (q - header shape)) 0)
+      go (under l e) = rw e (List·getD-append (headerOctets shape group id size p) _ 0 q (omega (arith, length-head p)))
       go (over l e) =
-          let i : ℕ = q - header s in
-          let z : q ≡ length (headerOctets s g id size p) + i = omega (arith, length-head p) in
-          let r : i < s .room = omega (arith, s .full) in
+          let i : ℕ = q - header shape in
+          let z : q ≡ length (headerOctets shape group id size p) + i = omega (arith, length-head p) in
+          let r : i < shape .room = omega (arith, shape .full) in
           rw e
-          (ap (λ (k : ℕ). getD (headerOctets s g id size p ++ (chunk s bs p ++ replicate (s .room - length (chunk s bs p)) 0)) k 0) z
-          ∙ getD-append-add (headerOctets s g id size p) (chunk s bs p ++ replicate (s .room - length (chunk s bs p)) 0) i 0
-          ∙ getD-padded (chunk s bs p) (s .room - length (chunk s bs p)) i
-          ∙ getD-take (s .room) (drop (s .room * p) bs) i 0 r
-          ∙ getD-drop (s .room * p) bs i 0)
+          (ap (λ (k : ℕ). getD (headerOctets shape group id size p ++ (chunk shape bytes p ++ replicate (shape .room - length (chunk shape bytes p)) 0)) k 0) z
+          ∙ getD-append-add (headerOctets shape group id size p) (chunk shape bytes p ++ replicate (shape .room - length (chunk shape bytes p)) 0) i 0
+          ∙ getD-padded (chunk shape bytes p) (shape .room - length (chunk shape bytes p)) i
+          ∙ getD-take (shape .room) (drop (shape .room * p) bytes) i 0 r
+          ∙ getD-drop (shape .room * p) bytes i 0)
 
   -- word k of the fewest-packet form
-  pub getD-pack : (k : ℕ) → k < wordsFor s size → getD (pack s g id bs) k 0 ≡ wordAt s g id size (λ i. getD bs i 0) k
+  pub getD-pack : (k : ℕ) → k < wordsFor shape size → getD (pack shape group id bytes) k 0 ≡ wordAt shape group id size (λ i. getD bytes i 0) k
   unfolding pack wordAt packsAt
   getD-pack k h =
-      let n : ℕ = packetsFor s size in
-      let p : ℕ = k / s .words in
-      let j : ℕ = k % s .words in
-      let e : s .words * p + j ≡ k = div-add-mod k (s .words) in
-      let l : j < s .words = mod-lt k (words-pos s) in
-      let hp : p < n = div-lt-iff-lt-mul (words-pos s) .1 (rw mul-comm at h) in
-      let whole : length (frame s (status p) g id (chunk s bs p)) ≡ 4 * s .words = length-frame s (status p) g id (chunk s bs p) hid (length-chunk s bs p) in
-      let at : (i : ℕ) → i < 4 → getD (frame s (status p) g id (chunk s bs p)) (4 * j + i) 0 ≡ octetAt s g id size (λ x. getD bs x 0) p (4 * j + i) = λ i b. getD-frame p (4 * j + i) (omega arith) in
+      let n : ℕ = packetsFor shape size in
+      let p : ℕ = k / shape .words in
+      let j : ℕ = k % shape .words in
+      let e : shape .words * p + j ≡ k = div-add-mod k (shape .words) in
+      let l : j < shape .words = mod-lt k (words-pos shape) in
+      let hp : p < n = div-lt-iff-lt-mul (words-pos shape) .1 (rw mul-comm at h) in
+      let whole : length (frame shape (status p) group id (chunk shape bytes p)) ≡ 4 * shape .words = length-frame shape (status p) group id (chunk shape bytes p) hid (length-chunk shape bytes p) in
+      let at : (i : ℕ) → i < 4 → getD (frame shape (status p) group id (chunk shape bytes p)) (4 * j + i) 0 ≡ octetAt shape group id size (λ x. getD bytes x 0) p (4 * j + i) = λ i b. getD-frame p (4 * j + i) (omega arith) in
       let z : 4 * j + 0 ≡ 4 * j = omega arith in
-      let m : List ℕ = packs s g id n (chunk s bs) ++ [] in
-      ap (λ (x : List ℕ). getD x k 0) (sym (append-nil (packs s g id n (chunk s bs))))
+      let m : List ℕ = packs shape group id n (chunk shape bytes) ++ [] in
+      ap (λ (x : List ℕ). getD x k 0) (sym (append-nil (packs shape group id n (chunk shape bytes))))
       ∙ ap (λ (x : ℕ). getD m x 0) (sym e)
-      ∙ sym (getD-drop (s .words * p) m j 0)
-      ∙ sym (getD-take (s .words) (drop (s .words * p) m) j 0 l)
-      ∙ ap (λ (x : List ℕ). getD x j 0) (packet-packs s g id n (chunk s bs) hid (length-chunk s bs) [] p hp)
-      ∙ getD-wordsOf (frame s (status p) g id (chunk s bs p)) j (omega arith)
+      ∙ sym (getD-drop (shape .words * p) m j 0)
+      ∙ sym (getD-take (shape .words) (drop (shape .words * p) m) j 0 l)
+      ∙ ap (λ (x : List ℕ). getD x j 0) (packet-packs shape group id n (chunk shape bytes) hid (length-chunk shape bytes) [] p hp)
+      ∙ getD-wordsOf (frame shape (status p) group id (chunk shape bytes p)) j (omega arith)
       ∙ rw (z, getD-frame p (4 * j) (omega arith), at 1 (omega arith), at 2 (omega arith), at 3 (omega arith))
 
 -- ---- word by word, for the loops that write it
 
-module _ (s : Shape) (g : ℕ) (id : List ℕ) (n : ℕ) (f : ℕ → ℕ) where
-  octet-body : (p q : ℕ) → header s ≤ q → octetAt s g id n f p q ≡ f (s .room * p + (q - header s))
+module _ (shape : Shape) (group : ℕ) (id : List ℕ) (n : ℕ) (f : ℕ → ℕ) where
+  octet-body : (p q : ℕ) → header shape ≤ q → octetAt shape group id n f p q ≡ f (shape .room * p + (q - header shape))
   unfolding octetAt
-  octet-body p q h = rw (le-ltb q (header s) h)
+  octet-body p q h = rw (le-ltb q (header shape) h)
 
   -- a word that is not its packet's first: four bytes
-  pub word-body : (k i : ℕ) → 0 < k % s .words → i + header s ≡ s .room * (k / s .words) + 4 * (k % s .words)
-      → wordAt s g id n f k ≡ word (f i) (f (i + 1)) (f (i + 2)) (f (i + 3))
+  pub word-body : (k i : ℕ) → 0 < k % shape .words → i + header shape ≡ shape .room * (k / shape .words) + 4 * (k % shape .words)
+      → wordAt shape group id n f k ≡ word (f i) (f (i + 1)) (f (i + 2)) (f (i + 3))
   unfolding wordAt
   word-body k i h e =
-      let p : ℕ = k / s .words in
-      let j : ℕ = k % s .words in
-      let at : (d : ℕ) → octetAt s g id n f p (4 * j + d) ≡ f (i + d) = λ d. octet-body p (4 * j + d) (omega (arith, s .ids-fit)) ∙ ap f (omega (arith, s .ids-fit)) in
+      let p : ℕ = k / shape .words in
+      let j : ℕ = k % shape .words in
+      let at : (d : ℕ) → octetAt shape group id n f p (4 * j + d) ≡ f (i + d) = λ d. octet-body p (4 * j + d) (omega (arith, shape .ids-fit)) ∙ ap f (omega (arith, shape .ids-fit)) in
       let z : i + 0 ≡ i = omega arith in
       rw (at 0, at 1, at 2, at 3, z)
 
 -- the first word of a packet: its header, and a first byte of SysEx8 or two of SysEx7
-pub word-head8 : (g id n : ℕ) (f : ℕ → ℕ) (k : ℕ) → k % 4 ≡ 0
-    → wordAt sysex8 g (id ∷ []) n f k
-    ≡ word (80 + g) (statusFor (packetsFor sysex8 n) (k / 4) * 16 + (min 13 (n - 13 * (k / 4)) + 1)) id (f (13 * (k / 4)))
+pub word-head8 : (group id n : ℕ) (f : ℕ → ℕ) (k : ℕ) → k % 4 ≡ 0
+    → wordAt sysex8 group (id ∷ []) n f k
+    ≡ word (80 + group) (statusFor (packetsFor sysex8 n) (k / 4) * 16 + (min 13 (n - 13 * (k / 4)) + 1)) id (f (13 * (k / 4)))
 unfolding wordAt octetAt
-word-head8 g id n f k e =
+word-head8 group id n f k e =
     let z : 13 * (k / 4) + 0 ≡ 13 * (k / 4) = omega arith in
     rw (e, z)
 
-pub word-head7 : (g n : ℕ) (f : ℕ → ℕ) (k : ℕ) → k % 2 ≡ 0
-    → wordAt sysex7 g [] n f k
-    ≡ word (48 + g) (statusFor (packetsFor sysex7 n) (k / 2) * 16 + (min 6 (n - 6 * (k / 2)) + 0)) (f (6 * (k / 2))) (f (6 * (k / 2) + 1))
+pub word-head7 : (group n : ℕ) (f : ℕ → ℕ) (k : ℕ) → k % 2 ≡ 0
+    → wordAt sysex7 group [] n f k
+    ≡ word (48 + group) (statusFor (packetsFor sysex7 n) (k / 2) * 16 + (min 6 (n - 6 * (k / 2)) + 0)) (f (6 * (k / 2))) (f (6 * (k / 2) + 1))
 unfolding wordAt octetAt
-word-head7 g n f k e =
+word-head7 group n f k e =
     let z : 6 * (k / 2) + 0 ≡ 6 * (k / 2) = omega arith in
     rw (e, z)
 
 -- ---- an octet of the fewest-packet form, among all of them
 
 -- octet j of packet p among all octets
-octet-of-packet : (s : Shape) (m : List ℕ) (p j : ℕ) → j < 4 * s .words → getD (octets (packet s m p)) j 0 ≡ getD (octets m) (4 * s .words * p + j) 0
-octet-of-packet s m p j h =
+octet-of-packet : (shape : Shape) (m : List ℕ) (p j : ℕ) → j < 4 * shape .words → getD (octets (packet shape m p)) j 0 ≡ getD (octets m) (4 * shape .words * p + j) 0
+octet-of-packet shape m p j h =
     let a : ℕ = j / 4 in
     let b : ℕ = j % 4 in
     let e : 4 * a + b ≡ j = omega arith in
     let l : b < 4 = omega arith in
-    let k : 4 * (s .words * p + a) + b ≡ 4 * s .words * p + j = omega (arith, mul-assoc 4 (s .words) p) in
-    ap (λ (x : ℕ). getD (octets (packet s m p)) x 0) (sym e)
-    ∙ getD-octets (packet s m p) a b l
-    ∙ ap (λ (x : ℕ). octet x b) (getD-take (s .words) (drop (s .words * p) m) a 0 (omega arith) ∙ getD-drop (s .words * p) m a 0)
-    ∙ sym (getD-octets m (s .words * p + a) b l)
+    let k : 4 * (shape .words * p + a) + b ≡ 4 * shape .words * p + j = omega (arith, mul-assoc 4 (shape .words) p) in
+    ap (λ (x : ℕ). getD (octets (packet shape m p)) x 0) (sym e)
+    ∙ getD-octets (packet shape m p) a b l
+    ∙ ap (λ (x : ℕ). octet x b) (getD-take (shape .words) (drop (shape .words * p) m) a 0 (omega arith) ∙ getD-drop (shape .words * p) m a 0)
+    ∙ sym (getD-octets m (shape .words * p + a) b l)
     ∙ ap (λ (x : ℕ). getD (octets m) x 0) k
 
-module _ (s : Shape) (g : ℕ) (id bs : List ℕ) (hg : g < 16) (ht : length id ≡ s .ids) (bt : Below 256 id) (bb : Below (s .limit) bs) where
+module _ (shape : Shape) (group : ℕ) (id bytes : List ℕ) (hg : group < 16) (ht : length id ≡ shape .ids) (bt : Below 256 id) (bb : Below (shape .limit) bytes) where
   abbrev packets : ℕ
-  packets = packetsFor s (length bs)
+  packets = packetsFor shape (length bytes)
 
   abbrev framed : ℕ → List ℕ
-  framed p = frame s (statusFor packets p) g id (chunk s bs p)
+  framed p = frame shape (statusFor packets p) group id (chunk shape bytes p)
 
-  pub octet-of-pack : (p j : ℕ) → p < packets → j < 4 * s .words → getD (octets (pack s g id bs)) (4 * s .words * p + j) 0 ≡ getD (framed p) j 0
+  pub octet-of-pack : (p j : ℕ) → p < packets → j < 4 * shape .words → getD (octets (pack shape group id bytes)) (4 * shape .words * p + j) 0 ≡ getD (framed p) j 0
   unfolding pack packsAt
   octet-of-pack p j hp l =
-      let m : List ℕ = packs s g id packets (chunk s bs) in
-      ap (λ (x : List ℕ). getD (octets x) (4 * s .words * p + j) 0) (sym (append-nil m))
-      ∙ sym (octet-of-packet s (m ++ []) p j l)
-      ∙ ap (λ (x : List ℕ). getD (octets x) j 0) (packet-packs s g id packets (chunk s bs) ht (length-chunk s bs) [] p hp)
+      let m : List ℕ = packs shape group id packets (chunk shape bytes) in
+      ap (λ (x : List ℕ). getD (octets x) (4 * shape .words * p + j) 0) (sym (append-nil m))
+      ∙ sym (octet-of-packet shape (m ++ []) p j l)
+      ∙ ap (λ (x : List ℕ). getD (octets x) j 0) (packet-packs shape group id packets (chunk shape bytes) ht (length-chunk shape bytes) [] p hp)
       ∙ ap (λ (x : List ℕ). getD x j 0)
-      (octets-frame s (statusFor packets p) g id (chunk s bs p) (omega (arith, status-small packets p)) hg ht (length-chunk s bs p) bt (below-chunk s bs bb p))
+      (octets-frame shape (statusFor packets p) group id (chunk shape bytes p) (omega (arith, status-small packets p)) hg ht (length-chunk shape bytes p) bt (below-chunk shape bytes bb p))

@@ -65,115 +65,115 @@ module _ (p b k m : ℕ) (l : List (ℕ × ℕ)) where
 
 -- ---- the places from a byte on
 
-module _ (s : Shape) (ws : List ℕ) where
+module _ (shape : Shape) (words : List ℕ) where
   -- those of its packet, and then those of the next
-  here : (p b : ℕ) → p < length ws / s .words → places s ws p b ≡ row p b (sizeAt s ws p - b) ++ places s ws (suc p) 0
+  here : (p b : ℕ) → p < length words / shape .words → places shape words p b ≡ row p b (sizeAt shape words p - b) ++ places shape words (suc p) 0
   unfolding places walk
-  here p b h = let e : length ws / s .words - p ≡ suc (length ws / s .words - suc p) = omega arith in rw e
+  here p b h = let e : length words / shape .words - p ≡ suc (length words / shape .words - suc p) = omega arith in rw e
 
-  gone : (p b : ℕ) → length ws / s .words ≤ p → places s ws p b ≡ []
+  gone : (p b : ℕ) → length words / shape .words ≤ p → places shape words p b ≡ []
   unfolding places walk
-  gone p b h = let e : length ws / s .words - p ≡ 0 = omega arith in rw e
+  gone p b h = let e : length words / shape .words - p ≡ 0 = omega arith in rw e
 
-  none-there : {A : Type 0} (p b m : ℕ) (x : ℕ × ℕ) (l : List (ℕ × ℕ)) → length ws / s .words ≤ p → drop m (places s ws p b) ≡ x ∷ l → A
+  none-there : {A : Type 0} (p b m : ℕ) (x : ℕ × ℕ) (l : List (ℕ × ℕ)) → length words / shape .words ≤ p → drop m (places shape words p b) ≡ x ∷ l → A
   none-there p b m x l h e =
       let z : x ∷ l ≡ [] = sym e ∙ (ap (drop m) (gone p b h) ∙ drop-nil m) in
       let w : _≡_ {A = ℕ} 0 1 = cc in
       absurd (omega arith)
 
   -- behind any place stand the places from the next byte on
-  onward-places : (k p b m : ℕ) (x : ℕ × ℕ) (l : List (ℕ × ℕ)) → length ws / s .words ≤ p + k → drop m (places s ws p b) ≡ x ∷ l
-      → places s ws (x .0) (x .1 + 1) ≡ l
+  onward-places : (k p b m : ℕ) (x : ℕ × ℕ) (l : List (ℕ × ℕ)) → length words / shape .words ≤ p + k → drop m (places shape words p b) ≡ x ∷ l
+      → places shape words (x .0) (x .1 + 1) ≡ l
   onward-places zero p b m x l h e = none-there p b m x l (omega arith) e
   onward-places (suc k) p b m x l h e =
-      go (side p (length ws / s .words)) (side m (sizeAt s ws p - b)) (λ n f. onward-places k (suc p) 0 n x l (omega arith) f)
+      go (side p (length words / shape .words)) (side m (sizeAt shape words p - b)) (λ n f. onward-places k (suc p) 0 n x l (omega arith) f)
     where
-      go : Side p (length ws / s .words) → Side m (sizeAt s ws p - b)
-          → ((n : ℕ) → drop n (places s ws (suc p) 0) ≡ x ∷ l → places s ws (x .0) (x .1 + 1) ≡ l) → places s ws (x .0) (x .1 + 1) ≡ l
+      go : Side p (length words / shape .words) → Side m (sizeAt shape words p - b)
+          → ((n : ℕ) → drop n (places shape words (suc p) 0) ≡ x ∷ l → places shape words (x .0) (x .1 + 1) ≡ l) → places shape words (x .0) (x .1 + 1) ≡ l
       go (over ge y) z again = none-there p b m x l ge e
       go (under lt y) (over ge z) again =
-          let n = sizeAt s ws p - b in
-          again (m - n) (sym (skipped p b n m (places s ws (suc p) 0) ge) ∙ (ap (drop m) (sym (here p b lt)) ∙ e))
+          let n = sizeAt shape words p - b in
+          again (m - n) (sym (skipped p b n m (places shape words (suc p) 0) ge) ∙ (ap (drop m) (sym (here p b lt)) ∙ e))
       go (under lt y) (under lm z) again =
-          let n = sizeAt s ws p - b in
-          let rest = places s ws (suc p) 0 in
+          let n = sizeAt shape words p - b in
+          let rest = places shape words (suc p) 0 in
           let f : (p, b + m) ∷ (row p (suc (b + m)) (n - suc m) ++ rest) ≡ x ∷ l =
           sym (met p b n m rest lm) ∙ (ap (drop m) (sym (here p b lt)) ∙ e)
           in
           let fx : (p, b + m) ≡ x = cc in
           let fl : row p (suc (b + m)) (n - suc m) ++ rest ≡ l = cc in
-          let j : sizeAt s ws p - suc (b + m) ≡ n - suc m = omega arith in
-          subst (λ (y : ℕ × ℕ). places s ws (y .0) (y .1 + 1) ≡ l) fx (rw (add-one (b + m)) (here p (suc (b + m)) lt ∙ rw j fl))
+          let j : sizeAt shape words p - suc (b + m) ≡ n - suc m = omega arith in
+          subst (λ (y : ℕ × ℕ). places shape words (y .0) (y .1 + 1) ≡ l) fx (rw (add-one (b + m)) (here p (suc (b + m)) lt ∙ rw j fl))
 
   -- ---- what a call answers, and what it leaves
 
   module _ (c : Cursor) (n : ℕ) where
     abbrev all : List (ℕ × ℕ)
-    all = places s ws (c .packet) (c .byte)
+    all = places shape words (c .packet) (c .byte)
 
     -- within the count: what stands there
-    nth-within : (l : List (ℕ × ℕ)) → n < c .remaining → drop n all ≡ l → nth s ws c n ≡ readFirst s ws (c .remaining - (n + 1)) l
+    nth-within : (l : List (ℕ × ℕ)) → n < c .remaining → drop n all ≡ l → nth shape words c n ≡ readFirst shape words (c .remaining - (n + 1)) l
     unfolding nth unread
     nth-within l h e =
         let r : c .remaining - n ≡ suc (c .remaining - (n + 1)) = omega arith in
         rw (drop-take n (c .remaining) all, e, r) (first-of (c .remaining - (n + 1)) l)
       where
-        first-of : (k : ℕ) (l : List (ℕ × ℕ)) → readFirst s ws k (take (suc k) l) ≡ readFirst s ws k l
+        first-of : (k : ℕ) (l : List (ℕ × ℕ)) → readFirst shape words k (take (suc k) l) ≡ readFirst shape words k l
         first-of k [] = refl
         first-of k (x ∷ l) = refl
 
     -- past the count: the end
-    pub nth-over : c .remaining ≤ n → nth s ws c n ≡ readFirst s ws 0 []
+    pub nth-over : c .remaining ≤ n → nth shape words c n ≡ readFirst shape words 0 []
     unfolding nth unread
     nth-over h = let r : c .remaining - n ≡ 0 = omega arith in rw (drop-take n (c .remaining) all, r)
 
-    tail : (l : List (ℕ × ℕ)) → drop n all ≡ l → drop (n + 1) (unread s ws c) ≡ take (c .remaining - (n + 1)) (drop 1 l)
+    tail : (l : List (ℕ × ℕ)) → drop n all ≡ l → drop (n + 1) (unread shape words c) ≡ take (c .remaining - (n + 1)) (drop 1 l)
     unfolding unread
     tail l e =
         drop-take (n + 1) (c .remaining) all
         ∙ ap (take (c .remaining - (n + 1))) (sym (drop-drop 1 n all) ∙ ap (drop 1) e)
 
     after : Side n (c .remaining) → (l : List (ℕ × ℕ)) → drop n all ≡ l
-        → unread s ws (nth s ws c n .cursor) ≡ drop (n + 1) (unread s ws c)
+        → unread shape words (nth shape words c n .cursor) ≡ drop (n + 1) (unread shape words c)
     unfolding unread
     after (over ge y) l e = let r : c .remaining - (n + 1) ≡ 0 = omega arith in rw (nth-over ge) (sym (tail l e ∙ rw r))
     after (under lt y) [] e = rw (nth-within [] lt e) (sym (tail [] e ∙ take-nil (c .remaining - (n + 1))))
     after (under lt y) (x ∷ l) e =
         rw (nth-within (x ∷ l) lt e)
-        (ap (take (c .remaining - (n + 1))) (onward-places (length ws / s .words) (c .packet) (c .byte) n x l (omega arith) e)
+        (ap (take (c .remaining - (n + 1))) (onward-places (length words / shape .words) (c .packet) (c .byte) n x l (omega arith) e)
         ∙ sym (tail (x ∷ l) e))
 
     -- a call leaves the places behind those that it passed, and so as many fewer bytes
-    pub unread-after : unread s ws (nth s ws c n .cursor) ≡ drop (n + 1) (unread s ws c)
+    pub unread-after : unread shape words (nth shape words c n .cursor) ≡ drop (n + 1) (unread shape words c)
     unread-after = after (side n (c .remaining)) (drop n all) refl
 
-    pub remaining-after : bytesRemaining s ws (nth s ws c n .cursor) ≡ bytesRemaining s ws c - (n + 1)
+    pub remaining-after : bytesRemaining shape words (nth shape words c n .cursor) ≡ bytesRemaining shape words c - (n + 1)
     unfolding bytesRemaining
-    remaining-after = ap length unread-after ∙ length-drop (n + 1) (unread s ws c)
+    remaining-after = ap length unread-after ∙ length-drop (n + 1) (unread shape words c)
 
     -- with no more than n to be read the answer is the end
-    pub nth-ends : bytesRemaining s ws c ≤ n → nth s ws c n ≡ readFirst s ws 0 []
+    pub nth-ends : bytesRemaining shape words c ≤ n → nth shape words c n ≡ readFirst shape words 0 []
     unfolding bytesRemaining nth
-    nth-ends h = rw (drop-of-length-le (unread s ws c) {i = n} h)
+    nth-ends h = rw (drop-of-length-le (unread shape words c) {i = n} h)
 
     -- which leaves nothing, and with nothing left the answer is the end for ever
-    pub end-leaves : nth s ws c n .step ≡ ended → bytesRemaining s ws (nth s ws c n .cursor) ≡ 0
+    pub end-leaves : nth shape words c n .step ≡ ended → bytesRemaining shape words (nth shape words c n .cursor) ≡ 0
     unfolding bytesRemaining unread nth
-    end-leaves e = go (drop n (unread s ws c)) e
+    end-leaves e = go (drop n (unread shape words c)) e
       where
-        go : (l : List (ℕ × ℕ)) → readFirst s ws (c .remaining - (n + 1)) l .step ≡ ended
-            → length (unread s ws (readFirst s ws (c .remaining - (n + 1)) l .cursor)) ≡ 0
+        go : (l : List (ℕ × ℕ)) → readFirst shape words (c .remaining - (n + 1)) l .step ≡ ended
+            → length (unread shape words (readFirst shape words (c .remaining - (n + 1)) l .cursor)) ≡ 0
         go [] e = refl
         go (x ∷ l) e = let z : _≡_ {A = ℕ} 0 1 = cc in absurd (omega arith)
 
-    pub ended-for-ever : bytesRemaining s ws c ≡ 0
-        → (nth s ws c n .step ≡ ended) × (bytesRemaining s ws (nth s ws c n .cursor) ≡ 0)
+    pub ended-for-ever : bytesRemaining shape words c ≡ 0
+        → (nth shape words c n .step ≡ ended) × (bytesRemaining shape words (nth shape words c n .cursor) ≡ 0)
     ended-for-ever e = (ap (λ (r : Read). r .step) (nth-ends (omega arith)), omega (arith, remaining-after))
 
 -- ---- the bytes that a cursor has yet to read
 
 abbrev pub bytesAt : Shape → List ℕ → List (ℕ × ℕ) → List ℕ
-bytesAt s ws l = map (λ place. byteAt s ws (place .0) (place .1)) l
+bytesAt shape words l = map (λ place. byteAt shape words (place .0) (place .1)) l
 
 -- the first of some bytes, or the end
 abbrev pub stepOf : List ℕ → Step
@@ -181,135 +181,135 @@ stepOf [] = ended
 stepOf (b ∷ bs) = byte b
 
 -- a call answers byte n of them, and behind the last the end
-step-at : (s : Shape) (ws : List ℕ) (k n : ℕ) (l : List (ℕ × ℕ)) → readFirst s ws k (drop n l) .step ≡ stepOf (drop n (bytesAt s ws l))
-step-at s ws k zero [] = refl
-step-at s ws k zero (x ∷ l) = refl
-step-at s ws k (suc n) [] = refl
-step-at s ws k (suc n) (x ∷ l) = step-at s ws k n l
+step-at : (shape : Shape) (words : List ℕ) (k n : ℕ) (l : List (ℕ × ℕ)) → readFirst shape words k (drop n l) .step ≡ stepOf (drop n (bytesAt shape words l))
+step-at shape words k zero [] = refl
+step-at shape words k zero (x ∷ l) = refl
+step-at shape words k (suc n) [] = refl
+step-at shape words k (suc n) (x ∷ l) = step-at shape words k n l
 
-pub nth-step : (s : Shape) (ws : List ℕ) (c : Cursor) (n : ℕ) → nth s ws c n .step ≡ stepOf (drop n (bytesAt s ws (unread s ws c)))
+pub nth-step : (shape : Shape) (words : List ℕ) (c : Cursor) (n : ℕ) → nth shape words c n .step ≡ stepOf (drop n (bytesAt shape words (unread shape words c)))
 unfolding nth
-nth-step s ws c n = step-at s ws (c .remaining - (n + 1)) n (unread s ws c)
+nth-step shape words c n = step-at shape words (c .remaining - (n + 1)) n (unread shape words c)
 
 -- ---- a message is read to its end
 
-module _ (s : Shape) (ws : List ℕ) where
-  whole : (p : ℕ) → p < length ws / s .words → s .words * p + s .words ≤ length ws
+module _ (shape : Shape) (words : List ℕ) where
+  whole : (p : ℕ) → p < length words / shape .words → shape .words * p + shape .words ≤ length words
   whole p h =
-      let m : s .words * suc p ≤ s .words * (length ws / s .words) = mul-le-mul-left (s .words) (omega arith) in
-      omega (arith, m, mul-suc (s .words) p, mul-div-le (length ws) (s .words))
+      let m : shape .words * suc p ≤ shape .words * (length words / shape .words) = mul-le-mul-left (shape .words) (omega arith) in
+      omega (arith, m, mul-suc (shape .words) p, mul-div-le (length words) (shape .words))
 
-  bytes-row : (p b n : ℕ) → p < length ws / s .words → b + n ≡ sizeAt s ws p → bytesAt s ws (row p b n) ≡ drop b (payloadAt s ws p)
+  bytes-row : (p b n : ℕ) → p < length words / shape .words → b + n ≡ sizeAt shape words p → bytesAt shape words (row p b n) ≡ drop b (payloadAt shape words p)
   unfolding row
   bytes-row p b zero h e =
-      let l : length (payloadAt s ws p) ≡ b = omega (arith, length-payloadAt s ws p (whole p h)) in
-      rw (← l) (sym (drop-length (payloadAt s ws p)))
+      let l : length (payloadAt shape words p) ≡ b = omega (arith, length-payloadAt shape words p (whole p h)) in
+      rw (← l) (sym (drop-length (payloadAt shape words p)))
   bytes-row p b (suc n) h e =
-      let l : b < length (payloadAt s ws p) = omega (arith, length-payloadAt s ws p (whole p h)) in
+      let l : b < length (payloadAt shape words p) = omega (arith, length-payloadAt shape words p (whole p h)) in
       rw (bytes-row p (suc b) n h (omega arith))
-      (sym (drop-cons (payloadAt s ws p) b 0 l ∙ rw (getD-payloadAt s ws p (whole p h) b (omega arith))))
+      (sym (drop-cons (payloadAt shape words p) b 0 l ∙ rw (getD-payloadAt shape words p (whole p h) b (omega arith))))
 
-  bytes-walk : (k p : ℕ) → p + k ≤ length ws / s .words
-      → joined (payloadAt s ws) p ++ bytesAt s ws (walk s ws p 0 k) ≡ joined (payloadAt s ws) (p + k)
+  bytes-walk : (k p : ℕ) → p + k ≤ length words / shape .words
+      → joined (payloadAt shape words) p ++ bytesAt shape words (walk shape words p 0 k) ≡ joined (payloadAt shape words) (p + k)
   unfolding walk joined
-  bytes-walk zero p h = rw (add-zero p) (append-nil (joined (payloadAt s ws) p))
+  bytes-walk zero p h = rw (add-zero p) (append-nil (joined (payloadAt shape words) p))
   bytes-walk (suc k) p h =
-      let n = sizeAt s ws p - 0 in
+      let n = sizeAt shape words p - 0 in
       let e : p + suc k ≡ suc p + k = omega arith in
-      ap (λ (l : List ℕ). joined (payloadAt s ws) p ++ l)
-      (map-append (λ place. byteAt s ws (place .0) (place .1)) (row p 0 n) (walk s ws (suc p) 0 k)
-      ∙ ap (λ (l : List ℕ). l ++ bytesAt s ws (walk s ws (suc p) 0 k)) (bytes-row p 0 n (omega arith) (omega arith)))
-      ∙ sym (append-assoc (joined (payloadAt s ws) p) (payloadAt s ws p) (bytesAt s ws (walk s ws (suc p) 0 k)))
+      ap (λ (l : List ℕ). joined (payloadAt shape words) p ++ l)
+      (map-append (λ place. byteAt shape words (place .0) (place .1)) (row p 0 n) (walk shape words (suc p) 0 k)
+      ∙ ap (λ (l : List ℕ). l ++ bytesAt shape words (walk shape words (suc p) 0 k)) (bytes-row p 0 n (omega arith) (omega arith)))
+      ∙ sym (append-assoc (joined (payloadAt shape words) p) (payloadAt shape words p) (bytesAt shape words (walk shape words (suc p) 0 k)))
       ∙ rw e (bytes-walk k (suc p) (omega arith))
 
   -- the bytes at the places from the start on are the payload of the packets that are there
-  pub bytes-places : bytesAt s ws (places s ws 0 0) ≡ payload s ws (length ws / s .words)
+  pub bytes-places : bytesAt shape words (places shape words 0 0) ≡ payload shape words (length words / shape .words)
   unfolding places payload joined
-  bytes-places = rw (sub-zero (length ws / s .words)) (bytes-walk (length ws / s .words) 0 (omega arith) ∙ rw (zero-add (length ws / s .words)))
+  bytes-places = rw (sub-zero (length words / shape .words)) (bytes-walk (length words / shape .words) 0 (omega arith) ∙ rw (zero-add (length words / shape .words)))
 
 -- the cursor at the start of so many bytes
 abbrev pub startOf : ℕ → Cursor
 startOf size = record { packet = 0; byte = 0; remaining = size }
 
 -- from the start, with its size as the count, a payload is read whole: byte by byte, and then the end
-module _ (s : Shape) (ws : List ℕ) where
+module _ (shape : Shape) (words : List ℕ) where
   abbrev content : List ℕ
-  content = payload s ws (length ws / s .words)
+  content = payload shape words (length words / shape .words)
 
-  pub unread-payload : bytesAt s ws (unread s ws (startOf (length content))) ≡ content
+  pub unread-payload : bytesAt shape words (unread shape words (startOf (length content))) ≡ content
   unfolding unread
   unread-payload =
-      let e = bytes-places s ws in
-      let l : length (places s ws 0 0) ≡ length content =
-      sym (length-map (places s ws 0 0) (λ place. byteAt s ws (place .0) (place .1))) ∙ ap length e
+      let e = bytes-places shape words in
+      let l : length (places shape words 0 0) ≡ length content =
+      sym (length-map (places shape words 0 0) (λ place. byteAt shape words (place .0) (place .1))) ∙ ap length e
       in
-      rw (take-all (length content) (places s ws 0 0) (omega arith)) e
+      rw (take-all (length content) (places shape words 0 0) (omega arith)) e
 
-  pub reads-payload : (n : ℕ) → nth s ws (startOf (length content)) n .step ≡ stepOf (drop n content)
-  reads-payload n = nth-step s ws (startOf (length content)) n ∙ ap (λ (l : List ℕ). stepOf (drop n l)) unread-payload
+  pub reads-payload : (n : ℕ) → nth shape words (startOf (length content)) n .step ≡ stepOf (drop n content)
+  reads-payload n = nth-step shape words (startOf (length content)) n ∙ ap (λ (l : List ℕ). stepOf (drop n l)) unread-payload
 
 -- and so is the message in the first len words (all of them lent, as in any valid one), whatever stands behind it
-module _ (s : Shape) (ws : List ℕ) (len : ℕ) (inside : len ≤ length ws) where
-  payloadAt-take : (p : ℕ) → s .words * p + s .words ≤ len → payloadAt s (take len ws) p ≡ payloadAt s ws p
+module _ (shape : Shape) (words : List ℕ) (len : ℕ) (inside : len ≤ length words) where
+  payloadAt-take : (p : ℕ) → shape .words * p + shape .words ≤ len → payloadAt shape (take len words) p ≡ payloadAt shape words p
   unfolding payloadAt
   payloadAt-take p h =
-      let e : s .words ≤ len - s .words * p = omega arith in
-      let f : firstWord s (take len ws) p ≡ firstWord s ws p = getD-take len ws (s .words * p) 0 (omega (arith, words-pos s)) in
-      let g : packet s (take len ws) p ≡ packet s ws p =
-      ap (take (s .words)) (drop-take (s .words * p) len ws) ∙ take-take (s .words) (len - s .words * p) (drop (s .words * p) ws) e
+      let e : shape .words ≤ len - shape .words * p = omega arith in
+      let f : firstWord shape (take len words) p ≡ firstWord shape words p = getD-take len words (shape .words * p) 0 (omega (arith, words-pos shape)) in
+      let g : packet shape (take len words) p ≡ packet shape words p =
+      ap (take (shape .words)) (drop-take (shape .words * p) len words) ∙ take-take (shape .words) (len - shape .words * p) (drop (shape .words * p) words) e
       in
       rw (f, g)
 
-  payload-take : payload s (take len ws) (length (take len ws) / s .words) ≡ payloadOf s ws len
+  payload-take : payload shape (take len words) (length (take len words) / shape .words) ≡ payloadOf shape words len
   unfolding payload
   payload-take =
-      let l : length (take len ws) ≡ len = omega (arith, length-take len ws) in
+      let l : length (take len words) ≡ len = omega (arith, length-take len words) in
       rw l
-      (joined-cong (payloadAt s (take len ws)) (payloadAt s ws) (len / s .words)
-      (λ p h. payloadAt-take p (rw l at (whole s (take len ws) p (rw l h)))))
+      (joined-cong (payloadAt shape (take len words)) (payloadAt shape words) (len / shape .words)
+      (λ p h. payloadAt-take p (rw l at (whole shape (take len words) p (rw l h)))))
 
-  pub unread-message : bytesAt s (take len ws) (unread s (take len ws) (startOf (length (payloadOf s ws len)))) ≡ payloadOf s ws len
-  unread-message = rw payload-take at (unread-payload s (take len ws))
+  pub unread-message : bytesAt shape (take len words) (unread shape (take len words) (startOf (length (payloadOf shape words len)))) ≡ payloadOf shape words len
+  unread-message = rw payload-take at (unread-payload shape (take len words))
 
-  pub reads-message : (n : ℕ) → nth s (take len ws) (startOf (length (payloadOf s ws len))) n .step ≡ stepOf (drop n (payloadOf s ws len))
-  reads-message n = rw payload-take at (reads-payload s (take len ws) n)
+  pub reads-message : (n : ℕ) → nth shape (take len words) (startOf (length (payloadOf shape words len))) n .step ≡ stepOf (drop n (payloadOf shape words len))
+  reads-message n = rw payload-take at (reads-payload shape (take len words) n)
 
 -- ---- a turn of a loop over the packets, at byte b of packet p, where k bytes stand
 
-module _ (s : Shape) (ws : List ℕ) (p b k : ℕ) (there : p < length ws / s .words) (standing : k ≡ sizeAt s ws p - b) (m : ℕ) where
-  split : places s ws p b ≡ row p b k ++ places s ws (p + 1) 0
-  split = rw (standing, add-one p) (here s ws p b there)
+module _ (shape : Shape) (words : List ℕ) (p b k : ℕ) (there : p < length words / shape .words) (standing : k ≡ sizeAt shape words p - b) (m : ℕ) where
+  split : places shape words p b ≡ row p b k ++ places shape words (p + 1) 0
+  split = rw (standing, add-one p) (here shape words p b there)
 
   -- m places on: in a later packet, or here
-  pub passed : (l : List (ℕ × ℕ)) → k ≤ m → drop m (places s ws p b) ≡ l → drop (m - k) (places s ws (p + 1) 0) ≡ l
-  passed l h e = sym (skipped p b k m (places s ws (p + 1) 0) h) ∙ (ap (drop m) (sym split) ∙ e)
+  pub passed : (l : List (ℕ × ℕ)) → k ≤ m → drop m (places shape words p b) ≡ l → drop (m - k) (places shape words (p + 1) 0) ≡ l
+  passed l h e = sym (skipped p b k m (places shape words (p + 1) 0) h) ∙ (ap (drop m) (sym split) ∙ e)
 
-  pub found : (c : Cursor) (n : ℕ) → n < c .remaining → m < k → drop m (places s ws p b) ≡ drop n (places s ws (c .packet) (c .byte))
+  pub found : (c : Cursor) (n : ℕ) → n < c .remaining → m < k → drop m (places shape words p b) ≡ drop n (places shape words (c .packet) (c .byte))
       → record {
-        step = byte (byteAt s ws p (b + m));
+        step = byte (byteAt shape words p (b + m));
         cursor = record { packet = p; byte = b + m + 1; remaining = c .remaining - n - 1 };
       }
-      ≡ nth s ws c n
+      ≡ nth shape words c n
   found c n h l e =
       let q : c .remaining - n - 1 ≡ c .remaining - (n + 1) = omega arith in
-      rw q (sym (nth-within s ws c n _ h (sym e ∙ (ap (drop m) split ∙ met p b k m (places s ws (p + 1) 0) l))))
+      rw q (sym (nth-within shape words c n _ h (sym e ∙ (ap (drop m) split ∙ met p b k m (places shape words (p + 1) 0) l))))
 
   -- of m bytes, all that are here are counted, or m
-  pub counted-here : (r t : ℕ) → k ≤ m → m ≤ r → length (take m (places s ws p b)) + (r - m) ≡ t
-      → length (take (m - k) (places s ws (p + 1) 0)) + (r - (m - k)) ≡ t
+  pub counted-here : (r t : ℕ) → k ≤ m → m ≤ r → length (take m (places shape words p b)) + (r - m) ≡ t
+      → length (take (m - k) (places shape words (p + 1) 0)) + (r - (m - k)) ≡ t
   counted-here r t h le e =
-      omega (arith, ap (λ (l : List (ℕ × ℕ)). length (take m l)) split, counted p b k m (places s ws (p + 1) 0) h)
+      omega (arith, ap (λ (l : List (ℕ × ℕ)). length (take m l)) split, counted p b k m (places shape words (p + 1) 0) h)
 
-  pub all-here : (r t : ℕ) → m ≤ k → m ≤ r → length (take m (places s ws p b)) + (r - m) ≡ t → r ≡ t
+  pub all-here : (r t : ℕ) → m ≤ k → m ≤ r → length (take m (places shape words p b)) + (r - m) ≡ t → r ≡ t
   all-here r t h le e =
-      omega (arith, ap (λ (l : List (ℕ × ℕ)). length (take m l)) split, enough p b k m (places s ws (p + 1) 0) h)
+      omega (arith, ap (λ (l : List (ℕ × ℕ)). length (take m l)) split, enough p b k m (places shape words (p + 1) 0) h)
 
 -- no packet is left
-module _ (s : Shape) (ws : List ℕ) (p b m : ℕ) (none : length ws / s .words ≤ p) where
-  pub out : (c : Cursor) (n : ℕ) → n < c .remaining → drop m (places s ws p b) ≡ drop n (places s ws (c .packet) (c .byte))
-      → readFirst s ws 0 [] ≡ nth s ws c n
-  out c n h e = sym (nth-within s ws c n [] h (sym e ∙ (ap (drop m) (gone s ws p b none) ∙ drop-nil m)))
+module _ (shape : Shape) (words : List ℕ) (p b m : ℕ) (none : length words / shape .words ≤ p) where
+  pub out : (c : Cursor) (n : ℕ) → n < c .remaining → drop m (places shape words p b) ≡ drop n (places shape words (c .packet) (c .byte))
+      → readFirst shape words 0 [] ≡ nth shape words c n
+  out c n h e = sym (nth-within shape words c n [] h (sym e ∙ (ap (drop m) (gone shape words p b none) ∙ drop-nil m)))
 
-  pub counted-out : (r t : ℕ) → length (take m (places s ws p b)) + (r - m) ≡ t → r - m ≡ t
+  pub counted-out : (r t : ℕ) → length (take m (places shape words p b)) + (r - m) ≡ t → r - m ≡ t
   counted-out r t e =
-      omega (arith, ap (λ (l : List (ℕ × ℕ)). length (take m l)) (gone s ws p b none), ap length (take-nil {A = ℕ × ℕ} m))
+      omega (arith, ap (λ (l : List (ℕ × ℕ)). length (take m l)) (gone shape words p b none), ap length (take-nil {A = ℕ × ℕ} m))

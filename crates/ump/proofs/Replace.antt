@@ -22,24 +22,24 @@ use Rattle.ump.proofs.First.{is-false, Side, under, over, side}
 pub take-slice : (f t : ℕ) (l : List ℕ) → f ≤ t → take f l ++ slice f t l ≡ take t l
 take-slice f t l h = rw (← (take-take f t l h)) (take-append-drop f (take t l))
 
-pub mixed-all : (p : List ℕ) (es : List Patch) (ds : List ℕ) → ((i : ℕ) → i < length es → elem i ds ≡ true) → mixed p es ds ≡ replaced p es
+pub mixed-all : (payload : List ℕ) (patches : List Patch) (done : List ℕ) → ((i : ℕ) → i < length patches → elem i done ≡ true) → mixed payload patches done ≡ replaced payload patches
 unfolding mixed piece replaced
-mixed-all p es ds h =
-    ap (λ (l : List ℕ). l ++ drop (endBefore es (length es)) p)
-    (joined-cong (piece p es ds) (λ i. gap p es i ++ patchAt es i .bytes) (length es) (λ i k. rw (h i k)))
+mixed-all payload patches done h =
+    ap (λ (l : List ℕ). l ++ drop (endBefore patches (length patches)) payload)
+    (joined-cong (piece payload patches done) (λ i. gap payload patches i ++ patchAt patches i .bytes) (length patches) (λ i k. rw (h i k)))
 
-mixed-around : (p : List ℕ) (es : List Patch) (ds : List ℕ) (i : ℕ) → i < length es
-    → mixed p es ds
-    ≡ (joined (piece p es ds) i ++ gap p es i) ++ (current p es ds i ++ (joined (λ k. piece p es ds (suc i + k)) (length es - suc i) ++ drop (endBefore es (length es)) p))
+mixed-around : (payload : List ℕ) (patches : List Patch) (done : List ℕ) (i : ℕ) → i < length patches
+    → mixed payload patches done
+    ≡ (joined (piece payload patches done) i ++ gap payload patches i) ++ (current payload patches done i ++ (joined (λ k. piece payload patches done (suc i + k)) (length patches - suc i) ++ drop (endBefore patches (length patches)) payload))
 unfolding mixed piece
-mixed-around p es ds i h = rw (joined-around (piece p es ds) (length es) i h) (simp append-assoc)
+mixed-around payload patches done i h = rw (joined-around (piece payload patches done) (length patches) i h) (simp append-assoc)
 
 -- one edit more is done: only its own piece changes
-pub elem-other : (i j : ℕ) (ds : List ℕ) → j ≢ i → elem j (i ∷ ds) ≡ elem j ds
-elem-other i j ds h = rw (ne-eqb j i h)
+pub elem-other : (i j : ℕ) (done : List ℕ) → j ≢ i → elem j (i ∷ done) ≡ elem j done
+elem-other i j done h = rw (ne-eqb j i h)
 
-pub elem-same : (i : ℕ) (ds : List ℕ) → elem i (i ∷ ds) ≡ true
-elem-same i ds = rw (eq-eqb i i refl)
+pub elem-same : (i : ℕ) (done : List ℕ) → elem i (i ∷ done) ≡ true
+elem-same i done = rw (eq-eqb i i refl)
 
 pub total-mono : (f g : ℕ → ℕ) (n : ℕ) → ((i : ℕ) → i < n → f i ≤ g i) → total f n ≤ total g n
 unfolding total
@@ -50,130 +50,130 @@ cond-le : (b : Bool) (n : ℕ) → cond b n 0 ≤ n
 cond-le true n = omega arith
 cond-le false n = omega arith
 
-module _ (p : List ℕ) (es : List Patch) (a : Apart es (length p)) where
+module _ (payload : List ℕ) (patches : List Patch) (a : Apart patches (length payload)) where
   -- the ends go up
-  end-le : (i k : ℕ) → i + k ≤ length es → endBefore es i ≤ endBefore es (i + k)
-  end-le i zero h = rw add-zero (le-refl (endBefore es i))
+  end-le : (i k : ℕ) → i + k ≤ length patches → endBefore patches i ≤ endBefore patches (i + k)
+  end-le i zero h = rw add-zero (le-refl (endBefore patches i))
   end-le i (suc k) h =
       rw add-suc
       (le-trans (end-le i k (omega arith)) (le-trans (a .after (i + k) (omega arith)) (a .forward (i + k) (omega arith))))
 
-  pub to-le : (i : ℕ) → i < length es → patchAt es i .to ≤ length p
+  pub to-le : (i : ℕ) → i < length patches → patchAt patches i .to ≤ length payload
   to-le i h =
-      let e : suc i + (length es - suc i) ≡ length es = omega arith in
-      le-trans (subst (λ (k : ℕ). patchAt es i .to ≤ endBefore es k) e (end-le (suc i) (length es - suc i) (omega arith))) (a .inside)
+      let e : suc i + (length patches - suc i) ≡ length patches = omega arith in
+      le-trans (subst (λ (k : ℕ). patchAt patches i .to ≤ endBefore patches k) e (end-le (suc i) (length patches - suc i) (omega arith))) (a .inside)
 
-  none-done : (i : ℕ) → i ≤ length es → joined (piece p es []) i ≡ take (endBefore es i) p
+  none-done : (i : ℕ) → i ≤ length patches → joined (piece payload patches []) i ≡ take (endBefore patches i) payload
   unfolding joined piece
   none-done zero h = refl
   none-done (suc i) h =
-      rw (none-done i (omega arith), ← append-assoc, take-slice (endBefore es i) (patchAt es i .from) p (a .after i h))
-      (take-slice (patchAt es i .from) (patchAt es i .to) p (a .forward i h))
+      rw (none-done i (omega arith), ← append-assoc, take-slice (endBefore patches i) (patchAt patches i .from) payload (a .after i h))
+      (take-slice (patchAt patches i .from) (patchAt patches i .to) payload (a .forward i h))
 
-  pub mixed-none : mixed p es [] ≡ p
+  pub mixed-none : mixed payload patches [] ≡ payload
   unfolding mixed
-  mixed-none = rw (none-done (length es) (omega arith)) (take-append-drop (endBefore es (length es)) p)
+  mixed-none = rw (none-done (length patches) (omega arith)) (take-append-drop (endBefore patches (length patches)) payload)
 
   -- how long the part before edit i has become: by what was put in less what was taken out
-  length-cur : (ds : List ℕ) (i : ℕ) → i < length es
-      → length (current p es ds i) + cond (elem i ds) (patchAt es i .to - patchAt es i .from) 0
-      ≡ (patchAt es i .to - patchAt es i .from) + cond (elem i ds) (length (patchAt es i .bytes)) 0
-  length-cur ds i h = go (elem i ds)
+  length-cur : (done : List ℕ) (i : ℕ) → i < length patches
+      → length (current payload patches done i) + cond (elem i done) (patchAt patches i .to - patchAt patches i .from) 0
+      ≡ (patchAt patches i .to - patchAt patches i .from) + cond (elem i done) (length (patchAt patches i .bytes)) 0
+  length-cur done i h = go (elem i done)
     where
       go : (b : Bool)
-          → length (cond b (patchAt es i .bytes) (slice (patchAt es i .from) (patchAt es i .to) p)) + cond b (patchAt es i .to - patchAt es i .from) 0
-          ≡ (patchAt es i .to - patchAt es i .from) + cond b (length (patchAt es i .bytes)) 0
+          → length (cond b (patchAt patches i .bytes) (slice (patchAt patches i .from) (patchAt patches i .to) payload)) + cond b (patchAt patches i .to - patchAt patches i .from) 0
+          ≡ (patchAt patches i .to - patchAt patches i .from) + cond b (length (patchAt patches i .bytes)) 0
       go true = omega arith
-      go false = omega (arith, length-slice (patchAt es i .from) (patchAt es i .to) p (to-le i h))
+      go false = omega (arith, length-slice (patchAt patches i .from) (patchAt patches i .to) payload (to-le i h))
 
-  pub length-gap : (i : ℕ) → i < length es → length (gap p es i) ≡ patchAt es i .from - endBefore es i
-  length-gap i h = length-slice (endBefore es i) (patchAt es i .from) p (omega (arith, a .forward i h, to-le i h))
+  pub length-gap : (i : ℕ) → i < length patches → length (gap payload patches i) ≡ patchAt patches i .from - endBefore patches i
+  length-gap i h = length-slice (endBefore patches i) (patchAt patches i .from) payload (omega (arith, a .forward i h, to-le i h))
 
-  pub length-before : (ds : List ℕ) (i : ℕ) → i ≤ length es → length (joined (piece p es ds) i) + removed es ds i ≡ endBefore es i + added es ds i
+  pub length-before : (done : List ℕ) (i : ℕ) → i ≤ length patches → length (joined (piece payload patches done) i) + removed patches done i ≡ endBefore patches i + added patches done i
   unfolding joined piece total
-  length-before ds zero h = refl
-  length-before ds (suc i) h =
+  length-before done zero h = refl
+  length-before done (suc i) h =
       omega (
         arith,
-        length-append (joined (piece p es ds) i) (gap p es i ++ current p es ds i),
-        length-append (gap p es i) (current p es ds i),
-        length-before ds i (omega arith),
+        length-append (joined (piece payload patches done) i) (gap payload patches i ++ current payload patches done i),
+        length-append (gap payload patches i) (current payload patches done i),
+        length-before done i (omega arith),
         length-gap i h,
-        length-cur ds i h,
+        length-cur done i h,
         a .after i h,
         a .forward i h,
       )
 
-  -- the size where ds are done: what was put in is added, what was taken out is gone
-  pub size-mixed : (ds : List ℕ) → length (mixed p es ds) + removed es ds (length es) ≡ length p + added es ds (length es)
+  -- the size where these are done: what was put in is added, what was taken out is gone
+  pub size-mixed : (done : List ℕ) → length (mixed payload patches done) + removed patches done (length patches) ≡ length payload + added patches done (length patches)
   unfolding mixed
-  size-mixed ds =
-      let m = length es in
+  size-mixed done =
+      let m = length patches in
       omega (
         arith,
-        length-append (joined (piece p es ds) m) (drop (endBefore es m) p),
-        length-drop (endBefore es m) p,
-        length-before ds m (omega arith),
+        length-append (joined (piece payload patches done) m) (drop (endBefore patches m) payload),
+        length-drop (endBefore patches m) payload,
+        length-before done m (omega arith),
         a .inside,
       )
 
   -- never longer than the payload with all replacements beside it
-  pub length-mixed : (ds : List ℕ) → length (mixed p es ds) ≤ length p + allBytes es
-  length-mixed ds =
-      let m = length es in
+  pub length-mixed : (done : List ℕ) → length (mixed payload patches done) ≤ length payload + allBytes patches
+  length-mixed done =
+      let m = length patches in
       omega (
         arith,
-        size-mixed ds,
-        total-mono (λ j. cond (elem j ds) (length (patchAt es j .bytes)) 0) (λ j. length (patchAt es j .bytes)) m (λ i k. cond-le (elem i ds) _),
+        size-mixed done,
+        total-mono (λ j. cond (elem j done) (length (patchAt patches j .bytes)) 0) (λ j. length (patchAt patches j .bytes)) m (λ i k. cond-le (elem i done) _),
       )
 
-  module _ (ds : List ℕ) (i : ℕ) (h : i < length es) (u : elem i ds ≡ false) where
+  module _ (done : List ℕ) (i : ℕ) (h : i < length patches) (u : elem i done ≡ false) where
     abbrev J : List ℕ
-    J = joined (piece p es ds) i
+    J = joined (piece payload patches done) i
 
     abbrev R : List ℕ
-    R = joined (λ k. piece p es ds (suc i + k)) (length es - suc i) ++ drop (endBefore es (length es)) p
+    R = joined (λ k. piece payload patches done (suc i + k)) (length patches - suc i) ++ drop (endBefore patches (length patches)) payload
 
     abbrev old : List ℕ
-    old = slice (patchAt es i .from) (patchAt es i .to) p
+    old = slice (patchAt patches i .from) (patchAt patches i .to) payload
 
-    length-old : length old ≡ patchAt es i .to - patchAt es i .from
-    length-old = length-slice (patchAt es i .from) (patchAt es i .to) p (to-le i h)
+    length-old : length old ≡ patchAt patches i .to - patchAt patches i .from
+    length-old = length-slice (patchAt patches i .from) (patchAt patches i .to) payload (to-le i h)
 
     -- the payload around the range of edit i, before it is done and after
-    around : mixed p es ds ≡ (J ++ gap p es i) ++ (old ++ R)
-    around = mixed-around p es ds i h ∙ ap (λ (b : Bool). (J ++ gap p es i) ++ (cond b (patchAt es i .bytes) old ++ R)) u
+    around : mixed payload patches done ≡ (J ++ gap payload patches i) ++ (old ++ R)
+    around = mixed-around payload patches done i h ∙ ap (λ (b : Bool). (J ++ gap payload patches i) ++ (cond b (patchAt patches i .bytes) old ++ R)) u
 
-    piece-other : (j : ℕ) → j ≢ i → piece p es (i ∷ ds) j ≡ piece p es ds j
+    piece-other : (j : ℕ) → j ≢ i → piece payload patches (i ∷ done) j ≡ piece payload patches done j
     unfolding piece
-    piece-other j n = ap (λ (b : Bool). gap p es j ++ cond b (patchAt es j .bytes) (slice (patchAt es j .from) (patchAt es j .to) p)) (elem-other i j ds n)
+    piece-other j n = ap (λ (b : Bool). gap payload patches j ++ cond b (patchAt patches j .bytes) (slice (patchAt patches j .from) (patchAt patches j .to) payload)) (elem-other i j done n)
 
-    around-new : mixed p es (i ∷ ds) ≡ (J ++ gap p es i) ++ (patchAt es i .bytes ++ R)
+    around-new : mixed payload patches (i ∷ done) ≡ (J ++ gap payload patches i) ++ (patchAt patches i .bytes ++ R)
     around-new =
-        mixed-around p es (i ∷ ds) i h
+        mixed-around payload patches (i ∷ done) i h
         ∙ rw (
-          elem-same i ds,
-          joined-cong (piece p es (i ∷ ds)) (piece p es ds) i (λ j l. piece-other j (omega arith)),
-          joined-cong (λ k. piece p es (i ∷ ds) (suc i + k)) (λ k. piece p es ds (suc i + k)) (length es - suc i) (λ k l. piece-other (suc i + k) (omega arith)),
+          elem-same i done,
+          joined-cong (piece payload patches (i ∷ done)) (piece payload patches done) i (λ j l. piece-other j (omega arith)),
+          joined-cong (λ k. piece payload patches (i ∷ done) (suc i + k)) (λ k. piece payload patches done (suc i + k)) (length patches - suc i) (λ k l. piece-other (suc i + k) (omega arith)),
         )
 
-    at-from : length (J ++ gap p es i) ≡ moved es ds i (patchAt es i .from)
+    at-from : length (J ++ gap payload patches i) ≡ moved patches done i (patchAt patches i .from)
     at-from =
         omega (
           arith,
-          length-append J (gap p es i),
-          length-before ds i (omega arith),
+          length-append J (gap payload patches i),
+          length-before done i (omega arith),
           length-gap i h,
           a .after i h,
         )
 
-    at-to : length ((J ++ gap p es i) ++ old) ≡ moved es ds i (patchAt es i .to)
+    at-to : length ((J ++ gap payload patches i) ++ old) ≡ moved patches done i (patchAt patches i .to)
     at-to =
         omega (
           arith,
-          length-append (J ++ gap p es i) old,
-          length-append J (gap p es i),
-          length-before ds i (omega arith),
+          length-append (J ++ gap payload patches i) old,
+          length-append J (gap payload patches i),
+          length-before done i (omega arith),
           length-gap i h,
           length-old,
           a .forward i h,
@@ -181,31 +181,31 @@ module _ (p : List ℕ) (es : List Patch) (a : Apart es (length p)) where
         )
 
     -- nothing is cut off where the range is moved
-    pub range-whole : removed es ds i ≤ patchAt es i .from + added es ds i
-    range-whole = omega (arith, length-before ds i (omega arith), a .after i h)
+    pub range-whole : removed patches done i ≤ patchAt patches i .from + added patches done i
+    range-whole = omega (arith, length-before done i (omega arith), a .after i h)
 
-    pub range-forward : moved es ds i (patchAt es i .from) ≤ moved es ds i (patchAt es i .to)
-    range-forward = omega (arith, at-from, at-to, length-append (J ++ gap p es i) old)
+    pub range-forward : moved patches done i (patchAt patches i .from) ≤ moved patches done i (patchAt patches i .to)
+    range-forward = omega (arith, at-from, at-to, length-append (J ++ gap payload patches i) old)
 
-    pub range-inside : moved es ds i (patchAt es i .to) ≤ length (mixed p es ds)
+    pub range-inside : moved patches done i (patchAt patches i .to) ≤ length (mixed payload patches done)
     range-inside =
-        rw (around, ← (append-assoc (J ++ gap p es i) old R)) (omega (arith, at-to, length-append ((J ++ gap p es i) ++ old) R))
+        rw (around, ← (append-assoc (J ++ gap payload patches i) old R)) (omega (arith, at-to, length-append ((J ++ gap payload patches i) ++ old) R))
 
-    pub step : spliced (mixed p es ds) (moved es ds i (patchAt es i .from)) (moved es ds i (patchAt es i .to)) (patchAt es i .bytes) ≡ mixed p es (i ∷ ds)
+    pub step : spliced (mixed payload patches done) (moved patches done i (patchAt patches i .from)) (moved patches done i (patchAt patches i .to)) (patchAt patches i .bytes) ≡ mixed payload patches (i ∷ done)
     step =
-        let h₁ : List ℕ = J ++ gap p es i in
-        let f : ℕ = moved es ds i (patchAt es i .from) in
-        let t : ℕ = moved es ds i (patchAt es i .to) in
-        let before : take f (mixed p es ds) ≡ h₁ = ap (take f) around ∙ take-at h₁ (old ++ R) f at-from in
-        let behind : drop t (mixed p es ds) ≡ R = ap (drop t) (around ∙ sym (append-assoc h₁ old R)) ∙ drop-at (h₁ ++ old) R t at-to in
-        ap₂ (λ (x y : List ℕ). x ++ (patchAt es i .bytes ++ y)) before behind ∙ sym around-new
+        let h₁ : List ℕ = J ++ gap payload patches i in
+        let f : ℕ = moved patches done i (patchAt patches i .from) in
+        let t : ℕ = moved patches done i (patchAt patches i .to) in
+        let before : take f (mixed payload patches done) ≡ h₁ = ap (take f) around ∙ take-at h₁ (old ++ R) f at-from in
+        let behind : drop t (mixed payload patches done) ≡ R = ap (drop t) (around ∙ sym (append-assoc h₁ old R)) ∙ drop-at (h₁ ++ old) R t at-to in
+        ap₂ (λ (x y : List ℕ). x ++ (patchAt patches i .bytes ++ y)) before behind ∙ sym around-new
 
 -- ---- an order of all the edits
 
 -- the edits that are done after is, where ds were done before
 abbrev pub after : List ℕ → List ℕ → List ℕ
-after ds [] = ds
-after ds (i ∷ is) = after (i ∷ ds) is
+after done [] = done
+after done (i ∷ is) = after (i ∷ done) is
 
 or-swap : (a b c : Bool) → (a || (b || c)) ≡ ((b || a) || c)
 or-swap true true c = refl
@@ -213,9 +213,9 @@ or-swap true false c = refl
 or-swap false true c = refl
 or-swap false false c = refl
 
-pub elem-after : (j : ℕ) (ds is : List ℕ) → elem j (after ds is) ≡ elem j is || elem j ds
-elem-after j ds [] = refl
-elem-after j ds (i ∷ is) = elem-after j (i ∷ ds) is ∙ or-swap (elem j is) (eqb j i) (elem j ds)
+pub elem-after : (j : ℕ) (done is : List ℕ) → elem j (after done is) ≡ elem j is || elem j done
+elem-after j done [] = refl
+elem-after j done (i ∷ is) = elem-after j (i ∷ done) is ∙ or-swap (elem j is) (eqb j i) (elem j done)
 
 -- one place more counts d more
 pub total-cong : (f g : ℕ → ℕ) (n : ℕ) → ((j : ℕ) → j < n → f j ≡ g j) → total f n ≡ total g n
@@ -294,42 +294,42 @@ or-left-true true b e = refl
 or-left-true false b e = cc
 
 -- of an order that none of ds is in, none of i and ds is in what comes after i
-pub fresh : (i : ℕ) (is ds : List ℕ) → elem i is ≡ false → ((j : ℕ) → elem j (i ∷ is) ≡ true → elem j ds ≡ false)
-    → (j : ℕ) → elem j is ≡ true → elem j (i ∷ ds) ≡ false
-fresh i is ds u f j e = go (eqb j i) refl
+pub fresh : (i : ℕ) (is done : List ℕ) → elem i is ≡ false → ((j : ℕ) → elem j (i ∷ is) ≡ true → elem j done ≡ false)
+    → (j : ℕ) → elem j is ≡ true → elem j (i ∷ done) ≡ false
+fresh i is done u f j e = go (eqb j i) refl
   where
-    go : (b : Bool) → eqb j i ≡ b → eqb j i || elem j ds ≡ false
+    go : (b : Bool) → eqb j i ≡ b → eqb j i || elem j done ≡ false
     go true x =
         let q : j ≡ i = eqb-true j i x in
         let v : elem i is ≡ true = subst (λ (k : ℕ). elem k is ≡ true) q e in
         cc
     go false x = rw x (f j (or-right-true (eqb j i) (elem j is) e))
 
-module _ (p : List ℕ) (es : List Patch) (a : Apart es (length p)) where
+module _ (payload : List ℕ) (patches : List Patch) (a : Apart patches (length payload)) where
   -- all done: all ranges replaced
-  pub mixed-order : (order : List ℕ) → Order (length es) order → length order ≡ length es → mixed p es (after [] order) ≡ replaced p es
+  pub mixed-order : (order : List ℕ) → Order (length patches) order → length order ≡ length patches → mixed payload patches (after [] order) ≡ replaced payload patches
   mixed-order order o l =
-      mixed-all p es (after [] order) (λ j k. elem-after j [] order ∙ or-left-true _ false (order-all (length es) order o l j k))
+      mixed-all payload patches (after [] order) (λ j k. elem-after j [] order ∙ or-left-true _ false (order-all (length patches) order o l j k))
 
 -- ---- one edit more is done: the sums, and the ranges still to come, move by its growth
 
-module _ (es : List Patch) (ds : List ℕ) (i k : ℕ) (u : elem i ds ≡ false) where
-  sum-lower : (v : ℕ → ℕ) → i < k → total (λ j. cond (elem j (i ∷ ds)) (v j) 0) k ≡ total (λ j. cond (elem j ds) (v j) 0) k + v i
+module _ (patches : List Patch) (done : List ℕ) (i k : ℕ) (u : elem i done ≡ false) where
+  sum-lower : (v : ℕ → ℕ) → i < k → total (λ j. cond (elem j (i ∷ done)) (v j) 0) k ≡ total (λ j. cond (elem j done) (v j) 0) k + v i
   sum-lower v h =
       total-point _ _ (v i) k i h
-      (rw (elem-same i ds, u) (omega arith))
-      (λ j l n. ap (λ (b : Bool). cond b (v j) 0) (elem-other i j ds n))
+      (rw (elem-same i done, u) (omega arith))
+      (λ j l n. ap (λ (b : Bool). cond b (v j) 0) (elem-other i j done n))
 
-  sum-higher : (v : ℕ → ℕ) → k ≤ i → total (λ j. cond (elem j (i ∷ ds)) (v j) 0) k ≡ total (λ j. cond (elem j ds) (v j) 0) k
-  sum-higher v h = total-cong _ _ k (λ j l. ap (λ (b : Bool). cond b (v j) 0) (elem-other i j ds (omega arith)))
+  sum-higher : (v : ℕ → ℕ) → k ≤ i → total (λ j. cond (elem j (i ∷ done)) (v j) 0) k ≡ total (λ j. cond (elem j done) (v j) 0) k
+  sum-higher v h = total-cong _ _ k (λ j l. ap (λ (b : Bool). cond b (v j) 0) (elem-other i j done (omega arith)))
 
-  pub moved-lower : (x : ℕ) → i < k → removed es ds k ≤ x + added es ds k
-      → moved es (i ∷ ds) k x ≡ moved es ds k x + length (patchAt es i .bytes) - (patchAt es i .to - patchAt es i .from)
+  pub moved-lower : (x : ℕ) → i < k → removed patches done k ≤ x + added patches done k
+      → moved patches (i ∷ done) k x ≡ moved patches done k x + length (patchAt patches i .bytes) - (patchAt patches i .to - patchAt patches i .from)
   moved-lower x h w =
-      omega (arith, sum-lower (λ j. length (patchAt es j .bytes)) h, sum-lower (λ j. patchAt es j .to - patchAt es j .from) h)
+      omega (arith, sum-lower (λ j. length (patchAt patches j .bytes)) h, sum-lower (λ j. patchAt patches j .to - patchAt patches j .from) h)
 
-  pub moved-higher : (x : ℕ) → k ≤ i → moved es (i ∷ ds) k x ≡ moved es ds k x
-  moved-higher x h = rw (sum-higher (λ j. length (patchAt es j .bytes)) h, sum-higher (λ j. patchAt es j .to - patchAt es j .from) h)
+  pub moved-higher : (x : ℕ) → k ≤ i → moved patches (i ∷ done) k x ≡ moved patches done k x
+  moved-higher x h = rw (sum-higher (λ j. length (patchAt patches j .bytes)) h, sum-higher (λ j. patchAt patches j .to - patchAt patches j .from) h)
 
 -- ---- where a patch may begin, if the first may at `start`
 

@@ -81,26 +81,26 @@ move-keeps done pending range e =
 
 -- ---- the range of an edit that is still to be done
 
-grown-is : (es : List Patch) (ds : List ℕ) (i : ℕ) → grown es ds i ≡ pos (added es ds i) -ℤ pos (removed es ds i)
+grown-is : (patches : List Patch) (done : List ℕ) (i : ℕ) → grown patches done i ≡ pos (added patches done i) -ℤ pos (removed patches done i)
 unfolding total totalℤ
-grown-is es ds zero = refl
-grown-is es ds (suc i) =
-    ap₂ (λ (x y : ℤ). x +ℤ y) (grown-is es ds i) (pick (elem i ds)) ∙ sub-add (added es ds i) (removed es ds i) _ _
+grown-is patches done zero = refl
+grown-is patches done (suc i) =
+    ap₂ (λ (x y : ℤ). x +ℤ y) (grown-is patches done i) (pick (elem i done)) ∙ sub-add (added patches done i) (removed patches done i) _ _
   where
-    pick : (b : Bool) → cond b (growth (editAt es i)) (pos 0) ≡ pos (cond b (length (patchAt es i .bytes)) 0) -ℤ pos (cond b (patchAt es i .to - patchAt es i .from) 0)
+    pick : (b : Bool) → cond b (growth (editAt patches i)) (pos 0) ≡ pos (cond b (length (patchAt patches i .bytes)) 0) -ℤ pos (cond b (patchAt patches i .to - patchAt patches i .from) 0)
     pick true = refl
     pick false = refl
 
 -- It is the old one, plus the signed growth of the lower-numbered edits already done.
-module _ (p : List ℕ) (es : List Patch) (a : Apart es (length p)) (ds : List ℕ) (i : ℕ) (h : i < length es) (u : elem i ds ≡ false) where
-  signed : (x : ℕ) → patchAt es i .from ≤ x → pos (moved es ds i x) ≡ pos x +ℤ grown es ds i
+module _ (payload : List ℕ) (patches : List Patch) (a : Apart patches (length payload)) (done : List ℕ) (i : ℕ) (h : i < length patches) (u : elem i done ≡ false) where
+  signed : (x : ℕ) → patchAt patches i .from ≤ x → pos (moved patches done i x) ≡ pos x +ℤ grown patches done i
   signed x k =
       sym
-      (ap (λ (z : ℤ). pos x +ℤ z) (grown-is es ds i)
-      ∙ move-pos x (added es ds i) (removed es ds i) (omega (arith, range-whole p es a ds i h u)))
+      (ap (λ (z : ℤ). pos x +ℤ z) (grown-is patches done i)
+      ∙ move-pos x (added patches done i) (removed patches done i) (omega (arith, range-whole payload patches a done i h u)))
 
-  pub from-signed : pos (moved es ds i (patchAt es i .from)) ≡ pos (patchAt es i .from) +ℤ grown es ds i
-  from-signed = signed (patchAt es i .from) (omega arith)
+  pub from-signed : pos (moved patches done i (patchAt patches i .from)) ≡ pos (patchAt patches i .from) +ℤ grown patches done i
+  from-signed = signed (patchAt patches i .from) (omega arith)
 
-  pub to-signed : pos (moved es ds i (patchAt es i .to)) ≡ pos (patchAt es i .to) +ℤ grown es ds i
-  to-signed = signed (patchAt es i .to) (a .forward i h)
+  pub to-signed : pos (moved patches done i (patchAt patches i .to)) ≡ pos (patchAt patches i .to) +ℤ grown patches done i
+  to-signed = signed (patchAt patches i .to) (a .forward i h)

@@ -11,72 +11,72 @@ use borrow.Author.Tests.{le-leb, lt-leb, leb-true, eq-eqb, ne-eqb}
 use Rattle.ump.specs.Packet.{Shape, sizeOf}
 use Rattle.ump.specs.Packing.{byPlace, statusFor, packetsFor, wordsFor}
 
-module _ (s : Shape) where
-  pub words-pos : 0 < s .words
-  words-pos = omega (arith, s .full)
+module _ (shape : Shape) where
+  pub words-pos : 0 < shape .words
+  words-pos = omega (arith, shape .full)
 
-  pub limit-pos : 0 < s .limit
-  limit-pos = rw (s .limit-is) at (pow-pos (s .width))
+  pub limit-pos : 0 < shape .limit
+  limit-pos = rw (shape .limit-is) at (pow-pos (shape .width))
 
-  pub limit-fits : s .limit ≤ 256
-  limit-fits = rw (s .limit-is) at (pow-mono (s .width-fits))
+  pub limit-fits : shape .limit ≤ 256
+  limit-fits = rw (shape .limit-is) at (pow-mono (shape .width-fits))
 
   -- ---- the payload size of a packet
 
-  pub size-of-count : (count : ℕ) → count ≤ s .room + s .bias → sizeOf s count ≡ count - s .bias
+  pub size-of-count : (count : ℕ) → count ≤ shape .room + shape .bias → sizeOf shape count ≡ count - shape .bias
   unfolding sizeOf
-  size-of-count count h = rw (le-leb count (s .room + s .bias) h)
+  size-of-count count h = rw (le-leb count (shape .room + shape .bias) h)
 
-  pub size-too-big : (count : ℕ) → s .room + s .bias < count → sizeOf s count ≡ 0
+  pub size-too-big : (count : ℕ) → shape .room + shape .bias < count → sizeOf shape count ≡ 0
   unfolding sizeOf
-  size-too-big count h = rw (lt-leb count (s .room + s .bias) h)
+  size-too-big count h = rw (lt-leb count (shape .room + shape .bias) h)
 
-  pub size-small : (count : ℕ) → sizeOf s count ≤ s .room
+  pub size-small : (count : ℕ) → sizeOf shape count ≤ shape .room
   unfolding sizeOf
-  size-small count = go (leb count (s .room + s .bias)) refl
+  size-small count = go (leb count (shape .room + shape .bias)) refl
     where
-      go : (b : Bool) → leb count (s .room + s .bias) ≡ b → cond b (count - s .bias) 0 ≤ s .room
-      go true e = omega (arith, leb-true count (s .room + s .bias) e)
+      go : (b : Bool) → leb count (shape .room + shape .bias) ≡ b → cond b (count - shape .bias) 0 ≤ shape .room
+      go true e = omega (arith, leb-true count (shape .room + shape .bias) e)
       go false e = omega arith
 
   -- ---- the packets of n bytes
 
   -- rounded up: one more than the packets that all bytes but the last fill
-  pub packets-are : (n : ℕ) → packetsFor s n ≡ suc ((n - 1) / s .room)
+  pub packets-are : (n : ℕ) → packetsFor shape n ≡ suc ((n - 1) / shape .room)
   unfolding packetsFor
-  packets-are zero = ap suc (sym (zero-div (s .room)))
+  packets-are zero = ap suc (sym (zero-div (shape .room)))
   packets-are (suc n) =
-      let e : suc n + (s .room - 1) ≡ n + s .room = omega (arith, s .some-room) in
+      let e : suc n + (shape .room - 1) ≡ n + shape .room = omega (arith, shape .some-room) in
       let d : suc n - 1 ≡ n = omega arith in
-      rw (ne-eqb (suc n) 0 (λ z. omega arith), e, d) (add-div-right n (s .some-room) ∙ omega arith)
+      rw (ne-eqb (suc n) 0 (λ z. omega arith), e, d) (add-div-right n (shape .some-room) ∙ omega arith)
 
-  pub packets-pos : (n : ℕ) → 0 < packetsFor s n
+  pub packets-pos : (n : ℕ) → 0 < packetsFor shape n
   packets-pos n = rw (packets-are n) (omega arith)
 
   -- the bytes fit, and one packet fewer would not hold them
-  pub packets-enough : (n : ℕ) → n ≤ s .room * packetsFor s n
-  packets-enough n = rw (packets-are n) (omega (arith, div-add-mod' (n - 1) (s .room), mod-lt (n - 1) (s .some-room)))
+  pub packets-enough : (n : ℕ) → n ≤ shape .room * packetsFor shape n
+  packets-enough n = rw (packets-are n) (omega (arith, div-add-mod' (n - 1) (shape .room), mod-lt (n - 1) (shape .some-room)))
 
-  pub packets-fewest : (n p : ℕ) → suc p < packetsFor s n → s .room * suc p < n
+  pub packets-fewest : (n p : ℕ) → suc p < packetsFor shape n → shape .room * suc p < n
   packets-fewest n p h =
-      let k : suc p < suc ((n - 1) / s .room) = rw (packets-are n) at h in
-      let l : s .room * suc p ≤ s .room * ((n - 1) / s .room) = mul-le-mul-left (s .room) (omega arith) in
-      omega (arith, l, div-add-mod' (n - 1) (s .room), mul-suc (s .room) p, s .some-room)
+      let k : suc p < suc ((n - 1) / shape .room) = rw (packets-are n) at h in
+      let l : shape .room * suc p ≤ shape .room * ((n - 1) / shape .room) = mul-le-mul-left (shape .room) (omega arith) in
+      omega (arith, l, div-add-mod' (n - 1) (shape .room), mul-suc (shape .room) p, shape .some-room)
 
   -- any packets that hold the bytes are no fewer
-  pub packets-least : (m n : ℕ) → 0 < n → m ≤ s .room * n → packetsFor s m ≤ n
+  pub packets-least : (m n : ℕ) → 0 < n → m ≤ shape .room * n → packetsFor shape m ≤ n
   packets-least m n h k =
-      rw (packets-are m) (div-lt-iff-lt-mul (s .some-room) .1 (omega (arith, mul-pos (s .some-room) h)))
+      rw (packets-are m) (div-lt-iff-lt-mul (shape .some-room) .1 (omega (arith, mul-pos (shape .some-room) h)))
 
   -- more bytes want no fewer
-  pub packets-mono : (m n : ℕ) → m ≤ n → packetsFor s m ≤ packetsFor s n
+  pub packets-mono : (m n : ℕ) → m ≤ n → packetsFor shape m ≤ packetsFor shape n
   packets-mono m n h =
-      let l : (m - 1) / s .room * s .room ≤ n - 1 = omega (arith, div-mul-le-self (m - 1) (s .room)) in
-      let k : (m - 1) / s .room ≤ (n - 1) / s .room = le-div-iff-mul-le (s .some-room) .1 l in
+      let l : (m - 1) / shape .room * shape .room ≤ n - 1 = omega (arith, div-mul-le-self (m - 1) (shape .room)) in
+      let k : (m - 1) / shape .room ≤ (n - 1) / shape .room = le-div-iff-mul-le (shape .some-room) .1 l in
       rw (packets-are m, packets-are n) (omega arith)
 
-  pub words-mono : (m n : ℕ) → m ≤ n → wordsFor s m ≤ wordsFor s n
-  words-mono m n h = mul-le-mul-left (s .words) (packets-mono m n h)
+  pub words-mono : (m n : ℕ) → m ≤ n → wordsFor shape m ≤ wordsFor shape n
+  words-mono m n h = mul-le-mul-left (shape .words) (packets-mono m n h)
 
 -- ---- the place of a packet among several, as the code branches on it
 

@@ -29,23 +29,23 @@ pub record Packed (shape : Shape) (group : ℕ) (id bytes : List ℕ) (lent : �
 
 -- ---- what is read off a message fits where it is written
 
-pub group-fits : (s : Shape) (ws : List ℕ) (p : ℕ) → groupAt s ws p < 16
-group-fits s ws p = omega arith
+pub group-fits : (shape : Shape) (words : List ℕ) (p : ℕ) → groupAt shape words p < 16
+group-fits shape words p = omega arith
 
-pub length-id : (s : Shape) (ws : List ℕ) (p : ℕ) → length (idAt s ws p) ≡ s .ids
-length-id s ws p = omega (arith, length-take (s .ids) (octet (firstWord s ws p) 2 ∷ octet (firstWord s ws p) 3 ∷ []), s .ids-fit)
+pub length-id : (shape : Shape) (words : List ℕ) (p : ℕ) → length (idAt shape words p) ≡ shape .ids
+length-id shape words p = omega (arith, length-take (shape .ids) (octet (firstWord shape words p) 2 ∷ octet (firstWord shape words p) 3 ∷ []), shape .ids-fit)
 
-pub below-id : (s : Shape) (ws : List ℕ) (p : ℕ) → Below 256 (idAt s ws p)
-below-id s ws p = below-take 256 (s .ids) _ (omega arith, (omega arith, tt))
+pub below-id : (shape : Shape) (words : List ℕ) (p : ℕ) → Below 256 (idAt shape words p)
+below-id shape words p = below-take 256 (shape .ids) _ (omega arith, (omega arith, tt))
 
-below-payloadAt : (s : Shape) (ws : List ℕ) (p : ℕ) → Below (s .limit) (payloadAt s ws p)
+below-payloadAt : (shape : Shape) (words : List ℕ) (p : ℕ) → Below (shape .limit) (payloadAt shape words p)
 unfolding payloadAt
-below-payloadAt s ws p = below-map (s .limit) (take (sizeAt s ws p) (drop (header s) (octets (packet s ws p)))) (limit-pos s)
+below-payloadAt shape words p = below-map (shape .limit) (take (sizeAt shape words p) (drop (header shape) (octets (packet shape words p)))) (limit-pos shape)
 
-pub below-payload : (s : Shape) (ws : List ℕ) (n : ℕ) → Below (s .limit) (payload s ws n)
+pub below-payload : (shape : Shape) (words : List ℕ) (n : ℕ) → Below (shape .limit) (payload shape words n)
 unfolding payload joined
-below-payload s ws zero = tt
-below-payload s ws (suc n) = below-append (s .limit) (joined (payloadAt s ws) n) _ (below-payload s ws n) (below-payloadAt s ws n)
+below-payload shape words zero = tt
+below-payload shape words (suc n) = below-append (shape .limit) (joined (payloadAt shape words) n) _ (below-payload shape words n) (below-payloadAt shape words n)
 
 -- ---- splicing
 
@@ -55,94 +55,94 @@ length-spliced p from to r h k = simp (length-append, length-take, length-drop) 
 pub below-spliced : (m : ℕ) (p : List ℕ) (from to : ℕ) (r : List ℕ) → Below m p → Below m r → Below m (spliced p from to r)
 below-spliced m p from to r h k = below-append m (take from p) _ (below-take m from p h) (below-append m r _ k (below-drop m to p h))
 
-pub length-stored : (ws : List ℕ) (len : ℕ) (m : List ℕ) → len ≤ length ws → length m ≤ length ws → length (stored ws len m) ≡ length ws
+pub length-stored : (words : List ℕ) (len : ℕ) (m : List ℕ) → len ≤ length words → length m ≤ length words → length (stored words len m) ≡ length words
 unfolding stored
-length-stored ws len m h k = simp (length-append, length-replicate, length-drop) (omega arith)
+length-stored words len m h k = simp (length-append, length-replicate, length-drop) (omega arith)
 
 -- ---- a message that is rewritten with other bytes
 
-module _ (s : Shape) (g : ℕ) (id bs : List ℕ) (size : ℕ) (ws : List ℕ) (len : ℕ) (h : Holds s g id bs size ws len)
-    (new : List ℕ) (bb : Below (s .limit) new) (room : wordsFor s (length new) ≤ size) where
+module _ (shape : Shape) (group : ℕ) (id bytes : List ℕ) (size : ℕ) (words : List ℕ) (len : ℕ) (h : Holds shape group id bytes size words len)
+    (new : List ℕ) (bb : Below (shape .limit) new) (room : wordsFor shape (length new) ≤ size) where
   abbrev m : List ℕ
-  m = pack s g id new
+  m = pack shape group id new
 
-  hg : g < 16
-  hg = rw (h .group-is) at (group-fits s ws 0)
+  hg : group < 16
+  hg = rw (h .group-is) at (group-fits shape words 0)
 
-  ht : length id ≡ s .ids
-  ht = rw (h .id-is) at (length-id s ws 0)
+  ht : length id ≡ shape .ids
+  ht = rw (h .id-is) at (length-id shape words 0)
 
   bt : Below 256 id
-  bt = rw (h .id-is) at (below-id s ws 0)
+  bt = rw (h .id-is) at (below-id shape words 0)
 
-  lm : length m ≡ wordsFor s (length new)
-  lm = length-pack s g id new ht
+  lm : length m ≡ wordsFor shape (length new)
+  lm = length-pack shape group id new ht
 
-  rewritten-is : rewritten s ws len new ≡ stored ws len m
+  rewritten-is : rewritten shape words len new ≡ stored words len m
   unfolding rewritten
   rewritten-is = rw (h .group-is, h .id-is)
 
-  stored-holds : Holds s g id new size (stored ws len m) (wordsFor s (length new))
+  stored-holds : Holds shape group id new size (stored words len m) (wordsFor shape (length new))
   unfolding stored
   stored-holds =
-      let l : length (stored ws len m) ≡ length ws = length-stored ws len m (h .valid .inside) (omega (arith, lm, h .buffer)) in
+      let l : length (stored words len m) ≡ length words = length-stored words len m (h .valid .inside) (omega (arith, lm, h .buffer)) in
       record {
-        valid = pack-valid s g id new hg ht bt bb _ (omega (arith, l, h .valid .short-enough));
-        group-is = group-of-pack s g id new hg ht bt bb _;
-        id-is = id-of-pack s g id new hg ht bt bb _;
-        carries = payloadOf-pack s g id new hg ht bt bb _;
+        valid = pack-valid shape group id new hg ht bt bb _ (omega (arith, l, h .valid .short-enough));
+        group-is = group-of-pack shape group id new hg ht bt bb _;
+        id-is = id-of-pack shape group id new hg ht bt bb _;
+        carries = payloadOf-pack shape group id new hg ht bt bb _;
         buffer = l ∙ h .buffer;
       }
 
-  pub rewritten-holds : Holds s g id new size (rewritten s ws len new) (wordsFor s (length new))
+  pub rewritten-holds : Holds shape group id new size (rewritten shape words len new) (wordsFor shape (length new))
   rewritten-holds = rw rewritten-is stored-holds
 
-  pub rewritten-fewest : take (wordsFor s (length new)) (rewritten s ws len new) ≡ pack s g id new
+  pub rewritten-fewest : take (wordsFor shape (length new)) (rewritten shape words len new) ≡ pack shape group id new
   unfolding stored
-  rewritten-fewest = rw rewritten-is (take-at m _ (wordsFor s (length new)) lm)
+  rewritten-fewest = rw rewritten-is (take-at m _ (wordsFor shape (length new)) lm)
 
 -- ---- packing: never refused, of a valid message
 
-module _ (s : Shape) (g : ℕ) (id bs : List ℕ) (size : ℕ) (ws : List ℕ) (len : ℕ) (h : Holds s g id bs size ws len) where
-  needed : wordsFor s (length bs) ≤ len
-  needed = rw (h .carries) at (no-spread s ws len (h .valid))
+module _ (shape : Shape) (group : ℕ) (id bytes : List ℕ) (size : ℕ) (words : List ℕ) (len : ℕ) (h : Holds shape group id bytes size words len) where
+  needed : wordsFor shape (length bytes) ≤ len
+  needed = rw (h .carries) at (no-spread shape words len (h .valid))
 
-  pub repack-done : repack s ws len ≡ (gives (wordsFor s (length bs)), rewritten s ws len bs)
+  pub repack-done : repack shape words len ≡ (gives (wordsFor shape (length bytes)), rewritten shape words len bytes)
   unfolding repack
   repack-done =
       rw (
         h .carries,
-        valid-passes s ws len (h .valid),
-        le-ltb len (wordsFor s (length bs)) needed,
-        le-ltb (length ws) (wordsFor s (length bs)) (le-trans needed (h .valid .inside)),
+        valid-passes shape words len (h .valid),
+        le-ltb len (wordsFor shape (length bytes)) needed,
+        le-ltb (length words) (wordsFor shape (length bytes)) (le-trans needed (h .valid .inside)),
       )
 
   -- ---- one splice, of a range inside the payload, with room
 
-  module _ (from to : ℕ) (r : List ℕ) (ft : from ≤ to) (tl : to ≤ length bs) (br : Below (s .limit) r)
-      (room : wordsFor s (length (spliced bs from to r)) ≤ size) where
-    pub splice-done : splice s ws len from to r
-        ≡ (gives (record { length = wordsFor s (length (spliced bs from to r)); growth = growthBy (length r) (to - from) }), rewritten s ws len (spliced bs from to r))
+  module _ (from to : ℕ) (r : List ℕ) (ft : from ≤ to) (tl : to ≤ length bytes) (br : Below (shape .limit) r)
+      (room : wordsFor shape (length (spliced bytes from to r)) ≤ size) where
+    pub splice-done : splice shape words len from to r
+        ≡ (gives (record { length = wordsFor shape (length (spliced bytes from to r)); growth = growthBy (length r) (to - from) }), rewritten shape words len (spliced bytes from to r))
     unfolding splice
     splice-done =
         rw (
           h .carries,
-          valid-passes s ws len (h .valid),
+          valid-passes shape words len (h .valid),
           le-ltb to from ft,
-          le-ltb (length bs) to tl,
-          le-ltb len (wordsFor s (length bs)) needed,
-          le-ltb (length ws) (wordsFor s (length (spliced bs from to r))) (omega (arith, h .buffer)),
+          le-ltb (length bytes) to tl,
+          le-ltb len (wordsFor shape (length bytes)) needed,
+          le-ltb (length words) (wordsFor shape (length (spliced bytes from to r))) (omega (arith, h .buffer)),
         )
 
-    below-new : Below (s .limit) (spliced bs from to r)
-    below-new = below-spliced (s .limit) bs from to r (rw (h .carries) at (below-payload s ws (len / s .words))) br
+    below-new : Below (shape .limit) (spliced bytes from to r)
+    below-new = below-spliced (shape .limit) bytes from to r (rw (h .carries) at (below-payload shape words (len / shape .words))) br
 
-    pub splice-packs : Packed s g id (spliced bs from to r) size (splice s ws len from to r)
+    pub splice-packs : Packed shape group id (spliced bytes from to r) size (splice shape words len from to r)
     splice-packs =
         rw splice-done
         (record {
           grew = growthBy (length r) (to - from);
           accepted = refl;
-          holds = rewritten-holds s g id bs size ws len h (spliced bs from to r) below-new room;
-          fewest = rewritten-fewest s g id bs size ws len h (spliced bs from to r) below-new room;
+          holds = rewritten-holds shape group id bytes size words len h (spliced bytes from to r) below-new room;
+          fewest = rewritten-fewest shape group id bytes size words len h (spliced bytes from to r) below-new room;
         })

@@ -62,10 +62,10 @@ length-wordsOf (a ∷ b ∷ []) k e = absurd (omega arith)
 length-wordsOf (a ∷ b ∷ c ∷ []) k e = absurd (omega arith)
 length-wordsOf (a ∷ b ∷ c ∷ d ∷ os) k e = omega (arith, length-wordsOf os (k - 1) (omega arith))
 
-pub length-octets : (ws : List ℕ) → length (octets ws) ≡ 4 * length ws
+pub length-octets : (words : List ℕ) → length (octets words) ≡ 4 * length words
 unfolding octets
 length-octets [] = refl
-length-octets (w ∷ ws) = omega (arith, length-octets ws)
+length-octets (w ∷ words) = omega (arith, length-octets words)
 
 pub head-wordsOf : (a b : ℕ) (xs : List ℕ) → 2 ≤ length xs → getD (wordsOf (a ∷ b ∷ xs)) 0 0 ≡ word a b (getD xs 0 0) (getD xs 1 0)
 unfolding wordsOf
@@ -90,11 +90,11 @@ word-octets w h =
     low : octet w 3 ≡ w % 2 ^ 8
     low = omega arith
 
-pub wordsOf-octets : (ws : List ℕ) → Below (2 ^ 32) ws → wordsOf (octets ws) ≡ ws
+pub wordsOf-octets : (words : List ℕ) → Below (2 ^ 32) words → wordsOf (octets words) ≡ words
 unfolding octets wordsOf
 wordsOf-octets [] h = refl
-wordsOf-octets (w ∷ ws) h =
-    rw (word-octets w (h .0), wordsOf-octets ws (h .1))
+wordsOf-octets (w ∷ words) h =
+    rw (word-octets w (h .0), wordsOf-octets words (h .1))
 
 -- ---- by position
 
@@ -105,17 +105,17 @@ zero-octet (suc (suc zero)) h = refl
 zero-octet (suc (suc (suc zero))) h = refl
 zero-octet (suc (suc (suc (suc q)))) h = absurd (omega arith)
 
-pub getD-octets : (ws : List ℕ) (j q : ℕ) → q < 4 → getD (octets ws) (4 * j + q) 0 ≡ octet (getD ws j 0) q
+pub getD-octets : (words : List ℕ) (j q : ℕ) → q < 4 → getD (octets words) (4 * j + q) 0 ≡ octet (getD words j 0) q
 unfolding octets
 getD-octets [] j q h = sym (zero-octet q h)
-getD-octets (w ∷ ws) zero zero h = refl
-getD-octets (w ∷ ws) zero (suc zero) h = refl
-getD-octets (w ∷ ws) zero (suc (suc zero)) h = refl
-getD-octets (w ∷ ws) zero (suc (suc (suc zero))) h = refl
-getD-octets (w ∷ ws) zero (suc (suc (suc (suc q)))) h = absurd (omega arith)
-getD-octets (w ∷ ws) (suc j) q h =
+getD-octets (w ∷ words) zero zero h = refl
+getD-octets (w ∷ words) zero (suc zero) h = refl
+getD-octets (w ∷ words) zero (suc (suc zero)) h = refl
+getD-octets (w ∷ words) zero (suc (suc (suc zero))) h = refl
+getD-octets (w ∷ words) zero (suc (suc (suc (suc q)))) h = absurd (omega arith)
+getD-octets (w ∷ words) (suc j) q h =
     let e : 4 * suc j + q ≡ suc (suc (suc (suc (4 * j + q)))) = omega arith in
-    rw e (getD-octets ws j q h)
+    rw e (getD-octets words j q h)
 
 pub getD-wordsOf : (os : List ℕ) (j : ℕ) → 4 * j + 3 < length os
     → getD (wordsOf os) j 0 ≡ word (getD os (4 * j) 0) (getD os (4 * j + 1) 0) (getD os (4 * j + 2) 0) (getD os (4 * j + 3) 0)

@@ -7,6 +7,7 @@ pub mod Check
 pub mod Single
 pub mod Reader
 pub mod Setters
+pub mod Setting
 pub mod Splice
 pub mod Edits
 pub mod Partly

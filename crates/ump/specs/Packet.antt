@@ -82,9 +82,12 @@ statusAt shape words p = nibble (firstWord shape words p) 2
 abbrev pub countAt : Shape → List ℕ → ℕ → ℕ
 countAt shape words p = nibble (firstWord shape words p) 3
 
--- the stream id: a list of one for SysEx8, of none for SysEx7
+-- the stream id in a first word: a list of one for SysEx8, of none for SysEx7
+abbrev pub idIn : Shape → ℕ → List ℕ
+idIn shape word = take (shape .ids) (octet word 2 ∷ octet word 3 ∷ [])
+
 abbrev pub idAt : Shape → List ℕ → ℕ → List ℕ
-idAt shape words p = take (shape .ids) (octet (firstWord shape words p) 2 ∷ octet (firstWord shape words p) 3 ∷ [])
+idAt shape words p = idIn shape (firstWord shape words p)
 
 -- the payload size that a count says: nothing where it is too small or too big
 unfoldable pub sizeOf : Shape → ℕ → ℕ

@@ -3,7 +3,8 @@ use mathlib.Core.Path.{_≡_}
 use Prim.Native.Nat.{ℕ}
 use mathlib.Core.Bool.{not}
 use lib.Dec.{T, eqb}
-use Rattle.refusal.proofs.Tight.{Shuts, differ}
+use Rattle.refusal.specs.Tight.{Shuts}
+use Rattle.refusal.proofs.Tight.{differ}
 use Rattle.ump.specs.Packet.{sizeOf}
 use Rattle.ump.specs.Packing.{statusFor}
 use Rattle.layout.proofs.type_of.Reads as type-of

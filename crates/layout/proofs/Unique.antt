@@ -1,6 +1,6 @@
 -- Any two outcomes that a promise allows are equal. Assumes nothing.
 use mathlib.Core.Path.{sym, _∙_}
-use Rattle.refusal.proofs.Tight.{FixesResult}
+use Rattle.refusal.specs.Tight.{FixesResult}
 use Rattle.layout.proofs.type_of.Kinds as type-of-kinds
 use Rattle.layout.proofs.type_of.Reads as type-of
 use Rattle.layout.proofs.group_of.Kinds as group-of-kinds

@@ -13,7 +13,7 @@ use Rattle.ump.specs.Limits.{mostWords}
 use Rattle.ump.specs.Edits.{Patch}
 use Rattle.store.specs.Store.{recordsOf, atStart, wellFormed, Dump, delta, dumpsOf, sound, held}
 use Rattle.chain.specs.Walk.{baseOf, comes, InRing, IsMissing, Rests}
-use Rattle.chain.specs.Restore.{Description}
+use Rattle.chain.specs.Restore.{restore, Description, describe}
 
 -- one list is the other in another order
 pub data Shuffled {A : Type 0} : List A → List A → Type 0 where
@@ -108,3 +108,12 @@ pub record Chained (Restores : Restorer) (Describes : Describer) : Type 0 where
   pub described-refused : {store : List ℕ} {n number place : ℕ} → Describes store n (refused number place)
       → {words : List ℕ} {answer : Answer ℕ} {left : List ℕ} → length words ≤ mostWords → Restores store n words answer left
       → (answer ≡ refused number place) ⊎ ((number ≡ 13) × (answer ≡ refused 14 0))
+
+-- each outcome of such calls is the definition's, and the definition's is one
+pub record PromisedChain (Restores : Restorer) (Describes : Describer) : Type 0 where
+  pub restores : {store : List ℕ} {n : ℕ} {words : List ℕ} {answer : Answer ℕ} {left : List ℕ} → Restores store n words answer left
+      → _≡_ {A = Answer ℕ × List ℕ} (answer, left) (restore store n words)
+  pub describes : {store : List ℕ} {n : ℕ} {answer : Answer Description} → Describes store n answer → answer ≡ describe store n
+  pub can-restore : {store : List ℕ} {n : ℕ} {words : List ℕ} {answer : Answer ℕ} {left : List ℕ}
+      → restore store n words ≡ (answer, left) → Restores store n words answer left
+  pub can-describe : {store : List ℕ} {n : ℕ} {answer : Answer Description} → describe store n ≡ answer → Describes store n answer

@@ -13,7 +13,7 @@ use Rattle.ump.specs.Origin.{Origin, headerOctet, carried, dumpByte, editByte, 
 use Rattle.ump.specs.Worker.{withRange, Finishes, bytesOf, start}
 use Rattle.ump.specs.Demand.{Audited}
 use Rattle.ump.specs.Samples.{message5, patches8}
-use Rattle.ump.specs.Meets.{PlainAnswers}
+use Rattle.ump.specs.Meets.{PlainAnswers, PromisedFamily}
 use Rattle.ump.specs.Orders.{BehindDiffers}
 use Rattle.ump.proofs.Limits.{dense8}
 use Rattle.ump.proofs.NotEmpty.{fits8}
@@ -25,7 +25,6 @@ use Rattle.edit.specs.declared.Moved.the-variants as moving
 use Rattle.edit.proofs.Once.{originBack}
 use Rattle.edit.proofs.Worker.{struct, Moves, family}
 use Rattle.edit.proofs.Audit as audit
-use Rattle.edit.proofs.Audit.{Promised}
 
 -- ---- a call for each outcome that the definitions give
 
@@ -74,7 +73,7 @@ origin-back untouched = refl
 
 -- ---- each promise as an equation over plain values
 
-promised : Promised sysex8 family
+promised : PromisedFamily sysex8 family
 promised =
     record {
       splices = λ b s. let g = s .given in rw (g .0, g .1, g .2, g .3, g .4, s .left, s .answer-is) at (s .promise);

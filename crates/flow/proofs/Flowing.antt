@@ -9,7 +9,7 @@ use lib.Seq.{drop-drop, take-add}
 use Rattle.ump.specs.Word.{Below}
 use Rattle.ump.specs.Packet.{Shape}
 use Rattle.ump.proofs.Words.{below-take, below-drop}
-use Rattle.ump.proofs.Reading.{drop-take}
+use Rattle.ump.proofs.Fronts.{drop-take}
 use Rattle.ump.proofs.First.{Side, under, over, side}
 use Rattle.flow.specs.Digits.{val}
 use Rattle.flow.specs.Flowing.{Flow, Appended, Poured}

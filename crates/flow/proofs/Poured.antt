@@ -9,7 +9,7 @@ use lib.Seq.{take-all}
 use Rattle.ump.specs.Packet.{Shape}
 use Rattle.ump.specs.Packing.{packetsFor}
 use Rattle.ump.proofs.Sizes.{words-pos, packets-enough, packets-least}
-use Rattle.ump.proofs.Reading.{drop-take}
+use Rattle.ump.proofs.Fronts.{drop-take}
 use Rattle.ump.proofs.First.{Side, under, over, side}
 use Rattle.flow.specs.Digits.{val}
 use Rattle.flow.specs.Flowing.{flowWord, Put, Flow, Poured}

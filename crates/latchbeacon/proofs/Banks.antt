@@ -8,14 +8,13 @@ use Rattle.ump.proofs.Numbered.{Numbered, numbered, from-named}
 use Rattle.store.specs.Store.{check}
 use Rattle.store.proofs.Checks.{check-named}
 use Rattle.chain.specs.Restore.{restore, Description, describe}
-use Rattle.chain.specs.Chained.{Chained}
+use Rattle.chain.specs.Chained.{Chained, PromisedChain}
 use Rattle.chain.specs.Audit.{AuditedDump}
 use Rattle.chain.proofs.Named.{restore-named, describe-named}
 use Rattle.restore.proofs.Chains as laws
-use Rattle.restore.proofs.Chains.{Promised}
 use Rattle.restore.proofs.Splices as splices
 use Rattle.reclaim.specs.Reclaim.{mark, collect}
-use Rattle.reclaim.specs.Reclaimed.{Reclaimed}
+use Rattle.reclaim.specs.Reclaimed.{Reclaimed, PromisedStore}
 use Rattle.reclaim.proofs.Unique.{mark-named, collect-named}
 use Rattle.reclaim.proofs.Reclaims as reclaims
 use Rattle.answers.specs.Answers.{leaving, numberAnswer, doneAnswer, dumpAnswer}
@@ -33,7 +32,7 @@ dump-read : (answer : Answer Description) → Numbered answer → dumpRead (dump
 dump-read (gives d) h = dump-given d (d .base) refl
 dump-read (refused number place) (numbered h) = read-refused number place _ h
 
-promised : Promised Restores Describes
+promised : PromisedChain Restores Describes
 promised =
     record {
       restores = λ {store = store} {n} {words} r.
@@ -74,7 +73,7 @@ audited = splices.audited promised (λ words len patches fits. demand.audited .d
 
 -- ---- marking and collecting
 
-changed : reclaims.Promised Checks Restores Describes Marks Collects
+changed : PromisedStore Checks Restores Describes Marks Collects
 changed =
     record {
       checks = λ {store = store} c.

@@ -14,14 +14,13 @@ use Rattle.ump.specs.Worker.{withRange, Finishes, bytesOf, start}
 use Rattle.ump.specs.Demand.{Audited}
 use Rattle.ump.specs.Origin.{Origin, headerOctet, carried, dumpByte, editByte, filler, zeroed, untouched, origin}
 use Rattle.ump.specs.Samples.{message5, patches8}
-use Rattle.ump.specs.Meets.{PlainAnswers}
+use Rattle.ump.specs.Meets.{PlainAnswers, PromisedFamily}
 use Rattle.ump.specs.Orders.{BehindDiffers}
 use Rattle.ump.proofs.Numbered.{Numbered, accepted, numbered, repack-numbered, splice-numbered, all-numbered, origin-numbered, move-numbered}
 use Rattle.ump.proofs.Limits.{dense8}
 use Rattle.ump.proofs.NotEmpty.{fits8}
 use Rattle.ump.proofs.Orders as orders
 use Rattle.edit.proofs.Audit as audit
-use Rattle.edit.proofs.Audit.{Promised}
 use Rattle.answers.specs.Answers.{leaving, numberAnswer, doneAnswer, changeAnswer, rangeAnswer, originAnswer}
 use Rattle.latchbeacon.proofs.Worker.{readAs, numberRead, doneRead, changeRead, rangeRead, originRead, family}
 
@@ -93,7 +92,7 @@ answers =
 
 -- ---- each promise as an equation over plain values
 
-promised : Promised sysex8 family
+promised : PromisedFamily sysex8 family
 promised =
     record {
       splices = λ {words = words} {len = len} {edit = edit} {bytes = bytes} b s.

@@ -3,16 +3,15 @@ use mathlib.Core.Path.{refl, sym, ap}
 use mathlib.Core.List.{[]}
 use Rattle.refusal.specs.Answer.{gives}
 use Rattle.ump.specs.Stream.{toSysex7}
-use Rattle.ump.specs.RealTime.{PassesOver}
+use Rattle.ump.specs.RealTime.{PassesOver, PromisedWriter}
 use Rattle.ump.proofs.Numbered.{stream-numbered}
 use Rattle.ump.proofs.RealTime as laws
-use Rattle.ump.proofs.RealTime.{Promised}
 use Rattle.answers.specs.Answers.{leaving, numberAnswer}
 use Rattle.latchbeacon.proofs.Worker.{numberRead}
 use Rattle.latchbeacon.proofs.Demand.{number-read, read-leaving, lent}
 use Rattle.latchbeacon.proofs.Writer.{Writes}
 
-promised : Promised Writes
+promised : PromisedWriter Writes
 promised =
     record {
       says = λ bytes group words answer left w.

@@ -8,16 +8,15 @@ use Rattle.store.proofs.Checks.{check-named}
 use Rattle.store.proofs.Unique.{checkedBack, checked-meant}
 use Rattle.restore.proofs.Calls.{Restores, Describes}
 use Rattle.restore.proofs.Promises as chain
-use Rattle.reclaim.specs.Reclaimed.{Reclaimed}
+use Rattle.reclaim.specs.Reclaimed.{Reclaimed, PromisedStore}
 use Rattle.reclaim.proofs.Unique.{markedBack, marked-meant, mark-named, collectedBack, collected-meant, collect-named}
 use Rattle.reclaim.proofs.Calls.{Checks, Marks, Collects}
 use Rattle.reclaim.proofs.Reclaims as laws
-use Rattle.reclaim.proofs.Reclaims.{Promised}
 
 abbrev lent : List ℕ → RefT (List ℕ)
 lent list = record { ptr = (0, 0); name = 0; now = list }
 
-promised : Promised Checks Restores Describes Marks Collects
+promised : PromisedStore Checks Restores Describes Marks Collects
 promised =
     record {
       checks = λ c. sym (c .answer-is) ∙ (rw (c .given) at (c .promise));

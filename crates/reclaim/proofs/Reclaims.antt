@@ -10,26 +10,14 @@ use Rattle.chain.specs.Chained.{Restorer, Describer}
 use Rattle.restore.proofs.Chains as chain
 use Rattle.restore.proofs.Chains.{alike}
 use Rattle.reclaim.specs.Reclaim.{mark, collected, collect}
-use Rattle.reclaim.specs.Reclaimed.{Checker, Marker, Collector, Reclaimed}
+use Rattle.reclaim.specs.Reclaimed.{Checker, Marker, Collector, Reclaimed, PromisedStore}
 use Rattle.reclaim.proofs.Marks.{mark-keeps, mark-one, mark-wanted, mark-checked, mark-restored, mark-described, mark-again}
 use Rattle.reclaim.proofs.Reaching.{stays-needed, needed-stays}
 use Rattle.reclaim.proofs.Collects.{Collection, collection, left-held, left-restored, left-described, left-missing, left-undescribed, left-unmarked, left-free, collect-again, collect-keeps, Accepted, accepted, grows-never}
 use Rattle.reclaim.proofs.Fewest.{fewest-held}
 
--- each outcome is the definition's, and the definition's is one
-pub record Promised (Checks : Checker) (Restores : Restorer) (Describes : Describer) (Marks : Marker) (Collects : Collector) : Type 0 where
-  pub checks : {store : List ℕ} {answer : Answer ℕ} → Checks store answer → answer ≡ check store
-  pub dumps : chain.Promised Restores Describes
-  pub marks : {store : List ℕ} {n : ℕ} {verdict : Verdict} {left : List ℕ} → Marks store n verdict left
-      → _≡_ {A = Verdict × List ℕ} (verdict, left) (mark store n)
-  pub collects : {store : List ℕ} {answer : Answer ℕ} {left : List ℕ} → Collects store answer left
-      → _≡_ {A = Answer ℕ × List ℕ} (answer, left) (collect store)
-  pub can-check : {store : List ℕ} {answer : Answer ℕ} → check store ≡ answer → Checks store answer
-  pub can-mark : {store : List ℕ} {n : ℕ} {verdict : Verdict} {left : List ℕ} → mark store n ≡ (verdict, left) → Marks store n verdict left
-  pub can-collect : {store : List ℕ} {answer : Answer ℕ} {left : List ℕ} → collect store ≡ (answer, left) → Collects store answer left
-
 module _ {Checks : Checker} {Restores : Restorer} {Describes : Describer} {Marks : Marker} {Collects : Collector}
-    (promised : Promised Checks Restores Describes Marks Collects) where
+    (promised : PromisedStore Checks Restores Describes Marks Collects) where
   -- a collection that is accepted
   module _ {store : List ℕ} {len : ℕ} {left : List ℕ} (c : Collects store (gives len) left) where
     done : Accepted store len left

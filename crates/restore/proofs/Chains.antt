@@ -21,7 +21,7 @@ use Rattle.store.specs.Store.{Dump, delta, dumpsOf, sound, held}
 use Rattle.store.proofs.Checks.{sound-good}
 use Rattle.chain.specs.Walk.{baseOf, comes, InRing, IsMissing}
 use Rattle.chain.specs.Restore.{Payload, exceeds, outside, rebuilt, restoredBy, restored, laidOut, answered, restore, Description, unlimited, sizes, largest, described, describe}
-use Rattle.chain.specs.Chained.{SameDumps, Reencoded, Foot, Restorer, Describer, Chained}
+use Rattle.chain.specs.Chained.{SameDumps, Reencoded, Foot, Restorer, Describer, Chained, PromisedChain}
 use Rattle.chain.proofs.Walks as walks
 use Rattle.chain.proofs.Walks.{End, ring, missing, rests, walk, comes-join, comes-base, ring-comes, over-ring, endless, restored-ring, ring-restored, restored-more, begun}
 use Rattle.chain.proofs.Making.{given-room}
@@ -242,16 +242,7 @@ describe-refused store n {number} {place} e = from (sound store) (begun unlimite
 
 -- ---- of any calls that promise the definitions
 
--- each outcome is the definition's, and the definition's is one
-pub record Promised (Restores : Restorer) (Describes : Describer) : Type 0 where
-  pub restores : {store : List ℕ} {n : ℕ} {words : List ℕ} {answer : Answer ℕ} {left : List ℕ} → Restores store n words answer left
-      → _≡_ {A = Answer ℕ × List ℕ} (answer, left) (restore store n words)
-  pub describes : {store : List ℕ} {n : ℕ} {answer : Answer Description} → Describes store n answer → answer ≡ describe store n
-  pub can-restore : {store : List ℕ} {n : ℕ} {words : List ℕ} {answer : Answer ℕ} {left : List ℕ}
-      → restore store n words ≡ (answer, left) → Restores store n words answer left
-  pub can-describe : {store : List ℕ} {n : ℕ} {answer : Answer Description} → describe store n ≡ answer → Describes store n answer
-
-module _ {Restores : Restorer} {Describes : Describer} (promised : Promised Restores Describes) where
+module _ {Restores : Restorer} {Describes : Describer} (promised : PromisedChain Restores Describes) where
   module _ {store : List ℕ} {n : ℕ} {words : List ℕ} {answer : Answer ℕ} {left : List ℕ} (c : Restores store n words answer left)
       (passes : sound store ≡ pass) (short : length words ≤ mostWords) where
     abbrev got : Answer Payload

@@ -4,7 +4,7 @@ use mathlib.Core.List.{List, []}
 use Prim.Native.Nat.{ℕ}
 use denote.Ref.{RefT}
 use Rattle.refusal.specs.Answer.{Answer}
-use Rattle.chain.specs.Chained.{Chained}
+use Rattle.chain.specs.Chained.{Chained, PromisedChain}
 use Rattle.chain.specs.Audit.{AuditedDump}
 use Rattle.chain.proofs.Named.{restore-named, describe-named}
 use Rattle.chain.proofs.Unique.{describedBack, described-meant}
@@ -13,13 +13,12 @@ use Rattle.edit.proofs.Demand as edit
 use Rattle.restore.proofs.Unique.{restoredBack, restored-meant}
 use Rattle.restore.proofs.Calls.{Restores, Describes}
 use Rattle.restore.proofs.Chains as laws
-use Rattle.restore.proofs.Chains.{Promised}
 use Rattle.restore.proofs.Splices as splices
 
 abbrev lent : List ℕ → RefT (List ℕ)
 lent list = record { ptr = (0, 0); name = 0; now = list }
 
-pub promised : Promised Restores Describes
+pub promised : PromisedChain Restores Describes
 promised =
     record {
       restores = λ r. let g = r .given in rw (g .0, g .1, g .2, r .left, r .answer-is) at (r .promise);

@@ -25,13 +25,13 @@ use Rattle.store.specs.Store.{recordsOf, atStart, Dump, delta, dumpsOf, held}
 use Rattle.store.proofs.Checks.{sound-good}
 use Rattle.store.proofs.Forms.{All, Formed, all-formed, OfBytes, bytes-at, store-bytes}
 use Rattle.chain.specs.Restore.{Payload, exceeds, restored, unlimited, laidOut}
-use Rattle.chain.specs.Chained.{Restorer, Describer}
+use Rattle.chain.specs.Chained.{Restorer, Describer, PromisedChain}
 use Rattle.chain.specs.Audit.{Accounted, Alike, AuditedDump}
 use Rattle.chain.proofs.Walks.{held-all}
 use Rattle.chain.proofs.Making.{rebuiltFrom, OfBase, Fitting, made-delta, fitting, apart}
 use Rattle.chain.proofs.Needs.{given-fits}
 use Rattle.restore.proofs.Groups.{restored-good}
-use Rattle.restore.proofs.Chains.{Accepted, accepted, base-begun, Promised}
+use Rattle.restore.proofs.Chains.{Accepted, accepted, base-begun}
 use Rattle.restore.proofs.Traces.{length-laid, laid-front, traced}
 
 -- ---- a restore that is accepted
@@ -167,7 +167,7 @@ module _ {store : List ℕ} {n number base : ℕ} {patches : List Patch} (is-hel
 -- ---- the theorem
 
 -- what an auditor asks, where the calls that edit a message satisfy demand 3
-pub audited : {Restores : Restorer} {Describes : Describer} → Promised Restores Describes → {calls : Calls (List ℕ) Edit}
+pub audited : {Restores : Restorer} {Describes : Describer} → PromisedChain Restores Describes → {calls : Calls (List ℕ) Edit}
     → ((words : List ℕ) (len : ℕ) (patches : List Patch) → Fits sysex8 words len patches
     → Demand3 sysex8 (λ words. words) (λ edit. edit) calls patches (start words len patches))
     → AuditedDump Restores calls

@@ -8,7 +8,7 @@ use lib.ListN.{getD, take, drop}
 use lib.Pow.{pow-pos}
 use lib.Seq.{take-take, drop-drop}
 use Rattle.ump.specs.Packet.{sysex8}
-use Rattle.ump.proofs.Reading.{drop-take}
+use Rattle.ump.proofs.Fronts.{drop-take}
 use Rattle.ump.proofs.First.{Side, under, over, side}
 use Rattle.flow.specs.Digits.{val}
 use Rattle.flow.specs.Flowing.{flowWord, Flow}

@@ -12,7 +12,7 @@ use Rattle.ump.specs.Packet.{joined}
 use Rattle.ump.specs.Edits.{Edit, Patch, Apart, patchAt, replaced, patchesOf, lengths}
 use Rattle.ump.proofs.First.{Side, under, over, side}
 use Rattle.ump.proofs.Joined.{joined-cong, joined-front}
-use Rattle.ump.proofs.Reading.{drop-take}
+use Rattle.ump.proofs.Fronts.{drop-take}
 use Rattle.ump.proofs.Replace.{endFrom, end-before, end-next}
 use Rattle.splice.specs.Merging.{isDue, width, stepOf, merged, widths}
 use Rattle.splice.proofs.Turning.{step-due, step-kept, merged-none, merged-step, take-front}

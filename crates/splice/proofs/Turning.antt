@@ -12,7 +12,7 @@ use lib.Seq.{length-take-le, take-take, drop-drop, take-append-le, drop-append-l
 use Rattle.ump.specs.Word.{Below}
 use Rattle.ump.specs.Edits.{Edit, editIn, editsFrom, editsOf, perEdit}
 use Rattle.ump.proofs.First.{Side, under, over, side}
-use Rattle.ump.proofs.Reading.{drop-take}
+use Rattle.ump.proofs.Fronts.{drop-take}
 use Rattle.ump.proofs.Words.{below-append, below-take, below-drop}
 use Rattle.splice.specs.Merging.{Step, isDue, width, stepOf, merged, beginOf, Ahead, Turns}
 

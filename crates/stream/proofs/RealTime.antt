@@ -3,16 +3,15 @@ use mathlib.Core.Path.{refl, sym}
 use mathlib.Core.List.{List, []}
 use Prim.Native.Nat.{ℕ}
 use denote.Ref.{RefT}
-use Rattle.ump.specs.RealTime.{PassesOver}
+use Rattle.ump.specs.RealTime.{PassesOver, PromisedWriter}
 use Rattle.ump.proofs.RealTime as laws
-use Rattle.ump.proofs.RealTime.{Promised}
 use Rattle.stream.specs.declared.Written.the-variants.{Words}
 use Rattle.stream.proofs.Writer.{Writes}
 
 abbrev lent : List ℕ → RefT (List ℕ)
 lent list = record { ptr = (0, 0); name = 0; now = list }
 
-promised : Promised Writes
+promised : PromisedWriter Writes
 promised =
     record {
       says = λ bytes group words answer left w.

@@ -1,26 +1,20 @@
 -- The payload of a message depends on its own words alone, and so does what the check says of it, but for the number of words lent.
 -- Assumes nothing.
-use mathlib.Core.Path.{_≡_, refl, sym, ap, ap₂, _∙_}
-use mathlib.Core.List.{List, [], _∷_, _++_}
-use Prim.Native.Nat.{ℕ, zero, suc, _+_, _*_, _/_, _≤_, _<_}
+use mathlib.Core.Path.{_≡_, refl, sym, ap, _∙_}
+use mathlib.Core.List.{List, _++_}
+use Prim.Native.Nat.{ℕ, _+_, _*_, _/_, _≤_, _<_}
 use native.Mathlib.Nat.{le-trans, mul-suc, mul-le-mul-left, mul-div-le, mul-zero, mul-pos}
 use native.Mathlib.Omega.{arith}
 use lib.ListN.{length, getD, take, drop, length-append}
-use lib.Seq.{take-take, getD-take, length-take-le, take-at}
-use Rattle.refusal.specs.Answer.{Answer, gives, refused, Verdict, pass, _▷_}
+use lib.Seq.{getD-take, length-take-le, take-at}
+use Rattle.refusal.specs.Answer.{gives, refused, Verdict, pass, _▷_}
 use Rattle.ump.specs.Packet.{Shape, firstWord, groupAt, idAt, packet, payloadAt, payload}
-use Rattle.ump.specs.Check.{firstWhere, badType, badStatus, badCount, badGroup, badId, checkPackets, check, payloadOf, Summary, summary, checked}
+use Rattle.ump.specs.Check.{badType, badStatus, badCount, badGroup, badId, checkPackets, check, payloadOf, Summary, summary, checked}
+use Rattle.ump.proofs.Fronts.{part-of-front}
 use Rattle.ump.proofs.Joined.{joined-cong}
 use Rattle.ump.proofs.First.{first-cong}
 use Rattle.ump.proofs.Sizes.{words-pos}
 use Rattle.ump.proofs.Checks.{passes-valid}
-
--- a part of a list that ends inside a front of it is a part of that front
-part-of-front : {A : Type 0} (start size front : ℕ) (l : List A) → start + size ≤ front → take size (drop start (take front l)) ≡ take size (drop start l)
-part-of-front zero size front l h = take-take size front l (omega arith)
-part-of-front (suc start) size zero l h = absurd (omega arith)
-part-of-front (suc start) size (suc front) [] h = refl
-part-of-front (suc start) size (suc front) (x ∷ l) h = part-of-front start size front l (omega arith)
 
 module _ (shape : Shape) (words others : List ℕ) (len : ℕ) (same : take len words ≡ take len others) where
   word-same : (i : ℕ) → i < len → getD words i 0 ≡ getD others i 0

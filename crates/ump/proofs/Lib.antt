@@ -1,5 +1,6 @@
 pub mod Fields
 pub mod Words
+pub mod Fronts
 pub mod Joined
 pub mod Sizes
 pub mod Limits

@@ -6,20 +6,15 @@ use native.Mathlib.Nat.{add-zero, zero-add, sub-zero, zero-sub, suc-sub-suc, mul
 use native.Mathlib.Numerals.{add-one}
 use native.Mathlib.Omega.{arith}
 use lib.ListN.{length, take, drop, length-append, length-take, length-drop, length-map, drop-of-length-le}
-use lib.Seq.{take-all, take-nil, drop-nil, drop-drop, drop-cons, drop-length, take-take, take-append-le, take-append-add, drop-append-le, drop-append-add, getD-take}
+use lib.Seq.{take-all, take-nil, drop-nil, drop-drop, drop-cons, drop-length, take-take, take-append-le, take-append-add, drop-append-le, drop-append-add, length-take-le}
 use Rattle.ump.specs.Packet.{Shape, firstWord, sizeAt, packet, payloadAt, joined, payload, byteAt}
 use Rattle.ump.specs.Check.{payloadOf}
-use Rattle.ump.specs.Reader.{Cursor, Step, byte, ended, Read, row, walk, places, unread, bytesRemaining, readFirst, nth}
+use Rattle.ump.specs.Reader.{Cursor, Step, byte, ended, Read, row, walk, places, unread, bytesRemaining, readFirst, nth, startOf, bytesAt, stepOf}
 use Rattle.ump.proofs.First.{Side, under, over, side}
-use Rattle.ump.proofs.Joined.{joined-cong}
+use Rattle.ump.proofs.Fronts.{drop-take}
+use Rattle.ump.proofs.Depends.{payload-same}
 use Rattle.ump.proofs.Sizes.{words-pos}
 use Rattle.ump.proofs.Bytes.{length-payloadAt, getD-payloadAt}
-
-pub drop-take : {A : Type 0} (n m : ℕ) (l : List A) → drop n (take m l) ≡ take (m - n) (drop n l)
-drop-take zero m l = rw (sub-zero m)
-drop-take (suc n) zero l = rw (zero-sub (suc n))
-drop-take (suc n) (suc m) [] = sym (take-nil (suc m - suc n))
-drop-take (suc n) (suc m) (x ∷ l) = rw (suc-sub-suc m n) (drop-take n m l)
 
 -- ---- the places of one packet
 
@@ -172,14 +167,6 @@ module _ (shape : Shape) (words : List ℕ) where
 
 -- ---- the bytes that a cursor has yet to read
 
-abbrev pub bytesAt : Shape → List ℕ → List (ℕ × ℕ) → List ℕ
-bytesAt shape words l = map (λ place. byteAt shape words (place .0) (place .1)) l
-
--- the first of some bytes, or the end
-abbrev pub stepOf : List ℕ → Step
-stepOf [] = ended
-stepOf (b ∷ bs) = byte b
-
 -- a call answers byte n of them, and behind the last the end
 step-at : (shape : Shape) (words : List ℕ) (k n : ℕ) (l : List (ℕ × ℕ)) → readFirst shape words k (drop n l) .step ≡ stepOf (drop n (bytesAt shape words l))
 step-at shape words k zero [] = refl
@@ -227,10 +214,6 @@ module _ (shape : Shape) (words : List ℕ) where
   unfolding places payload joined
   bytes-places = rw (sub-zero (length words / shape .words)) (bytes-walk (length words / shape .words) 0 (omega arith) ∙ rw (zero-add (length words / shape .words)))
 
--- the cursor at the start of so many bytes
-abbrev pub startOf : ℕ → Cursor
-startOf size = record { packet = 0; byte = 0; remaining = size }
-
 -- from the start, with its size as the count, a payload is read whole: byte by byte, and then the end
 module _ (shape : Shape) (words : List ℕ) where
   abbrev content : List ℕ
@@ -250,23 +233,8 @@ module _ (shape : Shape) (words : List ℕ) where
 
 -- and so is the message in the first len words (all of them lent, as in any valid one), whatever stands behind it
 module _ (shape : Shape) (words : List ℕ) (len : ℕ) (inside : len ≤ length words) where
-  payloadAt-take : (p : ℕ) → shape .words * p + shape .words ≤ len → payloadAt shape (take len words) p ≡ payloadAt shape words p
-  unfolding payloadAt
-  payloadAt-take p h =
-      let e : shape .words ≤ len - shape .words * p = omega arith in
-      let f : firstWord shape (take len words) p ≡ firstWord shape words p = getD-take len words (shape .words * p) 0 (omega (arith, words-pos shape)) in
-      let g : packet shape (take len words) p ≡ packet shape words p =
-      ap (take (shape .words)) (drop-take (shape .words * p) len words) ∙ take-take (shape .words) (len - shape .words * p) (drop (shape .words * p) words) e
-      in
-      rw (f, g)
-
   payload-take : payload shape (take len words) (length (take len words) / shape .words) ≡ payloadOf shape words len
-  unfolding payload
-  payload-take =
-      let l : length (take len words) ≡ len = omega (arith, length-take len words) in
-      rw l
-      (joined-cong (payloadAt shape (take len words)) (payloadAt shape words) (len / shape .words)
-      (λ p h. payloadAt-take p (rw l at (whole shape (take len words) p (rw l h)))))
+  payload-take = rw (length-take-le len words inside) (payload-same shape (take len words) words len (take-take len len words (omega arith)))
 
   pub unread-message : bytesAt shape (take len words) (unread shape (take len words) (startOf (length (payloadOf shape words len)))) ≡ payloadOf shape words len
   unread-message = rw payload-take at (unread-payload shape (take len words))

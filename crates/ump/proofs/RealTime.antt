@@ -18,7 +18,7 @@ use Rattle.ump.specs.Packing.{pack, wordsFor}
 use Rattle.ump.specs.Limits.{mostWords}
 use Rattle.ump.specs.Splice.{spliced}
 use Rattle.ump.specs.Stream.{badFrame, between, realTime, badByte, withoutRealTime, firstBad, toSysex7}
-use Rattle.ump.specs.RealTime.{strictToSysex7, placeMoved, Writer, PassesOver}
+use Rattle.ump.specs.RealTime.{strictToSysex7, placeMoved, Writer, PassesOver, PromisedWriter}
 use Rattle.ump.proofs.Words.{below-getD}
 use Rattle.ump.proofs.Splicing.{length-spliced}
 use Rattle.ump.proofs.First.{Side, under, over, side, first-cong, first-suc}
@@ -217,13 +217,7 @@ module _ (clock : List ℕ) (clocks : withoutRealTime clock ≡ []) (group : ℕ
 
 -- ---- of any call that promises the definition
 
-pub record Promised (Writes : Writer) : Type 0 where
-  pub says : (bytes : List ℕ) (group : ℕ) (words : List ℕ) (answer : Answer ℕ) (left : List ℕ) → Writes bytes group words answer left
-      → (answer, left) ≡ toSysex7 bytes group words
-  pub can-answer : (bytes : List ℕ) (group : ℕ) (words : List ℕ) (n : ℕ) (left : List ℕ) → toSysex7 bytes group words ≡ (gives n, left)
-      → Writes bytes group words (gives n) left
-
-module _ {Writes : Writer} (promised : Promised Writes) where
+module _ {Writes : Writer} (promised : PromisedWriter Writes) where
   put : (bytes : List ℕ) (group : ℕ) (words : List ℕ) (answer : Answer ℕ) (left : List ℕ) → Writes bytes group words answer left
       → (extra : List ℕ) → withoutRealTime extra ≡ [] → (k : ℕ) → 0 < k → k < length bytes
       → (then : Answer ℕ) (after : List ℕ) → Writes (spliced bytes k k extra) group words then after

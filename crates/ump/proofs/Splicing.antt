@@ -13,19 +13,12 @@ use Rattle.ump.specs.Word.{octet, octets, Below}
 use Rattle.ump.specs.Packet.{Shape, header, firstWord, sizeAt, groupAt, idAt, packet, payloadAt, joined, payload}
 use Rattle.ump.specs.Packing.{wordsFor, pack}
 use Rattle.ump.specs.Splice.{spliced, stored, rewritten, repack, growthBy, Spliced, splice}
-use Rattle.ump.specs.Holds.{Holds}
+use Rattle.ump.specs.Holds.{Holds, Packed}
 use Rattle.ump.proofs.Words.{below-append, below-take, below-drop, below-map}
 use Rattle.ump.proofs.Sizes.{limit-pos}
 use Rattle.ump.proofs.Packing.{length-pack}
 use Rattle.ump.proofs.Checks.{valid-passes}
 use Rattle.ump.proofs.Message.{payloadOf-pack, group-of-pack, id-of-pack, pack-valid, no-spread}
-
--- an outcome that is no refusal, and whose message is the fewest-packet form of these bytes
-pub record Packed (shape : Shape) (group : ℕ) (id bytes : List ℕ) (lent : ℕ) (outcome : Answer Spliced × List ℕ) : Type 0 where
-  pub grew : ℤ
-  pub accepted : outcome .0 ≡ gives (record { length = wordsFor shape (length bytes); growth = grew })
-  pub holds : Holds shape group id bytes lent (outcome .1) (wordsFor shape (length bytes))
-  pub fewest : take (wordsFor shape (length bytes)) (outcome .1) ≡ pack shape group id bytes
 
 -- ---- what is read off a message fits where it is written
 

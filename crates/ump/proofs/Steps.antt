@@ -17,14 +17,14 @@ use Rattle.ump.specs.Limits.{mostBytes}
 use Rattle.ump.specs.Check.{payloadOf}
 use Rattle.ump.specs.Splice.{spliced, Spliced, splice}
 use Rattle.ump.specs.Edits.{Edit, Patch, patchAt, Apart, allBytes, elem, movedPast, Order}
-use Rattle.ump.specs.Holds.{Holds, Fewest, Behind}
+use Rattle.ump.specs.Holds.{Holds, Fewest, Behind, Packed}
 use Rattle.ump.specs.Worker.{Calls, Held, End, finished, stopped, Works, rests, goes-on, splice-refused, move-refused, Finishes, bytesOf, AllInPlace, Placed, reached}
 use Rattle.ump.specs.Meets.{movedEdit, View, Ready, Meets, CanSplice, CanMove, Answers}
 use Rattle.ump.specs.Partly.{moved, mixed, editNow}
 use Rattle.ump.proofs.First.{is-false}
 use Rattle.ump.proofs.Sizes.{words-mono}
 use Rattle.ump.proofs.Replace.{or-right-true, length-mixed, range-forward, range-inside, range-whole, step, after, elem-same, fresh}
-use Rattle.ump.proofs.Splicing.{Packed, splice-packs, length-spliced}
+use Rattle.ump.proofs.Splicing.{splice-packs, length-spliced}
 use Rattle.ump.proofs.Signed.{moved-past-is, from-signed, to-signed}
 use Rattle.ump.proofs.Moving.{move-past}
 use Rattle.ump.proofs.Done.{known}

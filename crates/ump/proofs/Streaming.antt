@@ -15,18 +15,11 @@ use Rattle.ump.specs.Packet.{sysex7}
 use Rattle.ump.specs.Packing.{pack, wordsFor}
 use Rattle.ump.specs.Limits.{mostWords}
 use Rattle.ump.specs.Check.{payloadOf, summary, checked}
-use Rattle.ump.specs.Stream.{badFrame, between, badByte, withoutRealTime, firstBad, dataOf, toSysex7}
+use Rattle.ump.specs.Stream.{badFrame, between, badByte, withoutRealTime, firstBad, dataOf, toSysex7, badAt, needed, Streamed}
 use Rattle.ump.proofs.Without.{data-below}
 use Rattle.ump.proofs.First.{first-before}
 use Rattle.ump.proofs.Packing.{length-pack}
 use Rattle.ump.proofs.Message.{payloadOf-pack, checked-pack}
-
--- the first byte of 80 to F7, and the words that the data needs
-abbrev pub badAt : List ℕ → ℕ
-badAt bytes = firstBad badByte (between bytes)
-
-abbrev pub needed : List ℕ → ℕ
-needed bytes = wordsFor sysex7 (length (dataOf bytes))
 
 -- ---- the cases, each after those before it did not hold
 
@@ -92,15 +85,6 @@ septets-below : (bytes : List ℕ) → length bytes ≤ firstBad badByte bytes �
 septets-below bytes h =
     data-below bytes
     (λ i k. first-before (λ j. badByte (getD bytes j 0)) (length bytes) i (omega arith))
-
--- the words lent, after a call that writes n of them: the fewest-packet form of the data, then what stood there; those n are a valid
--- message that carries the data, whatever stands behind them
-pub record Streamed (bytes : List ℕ) (group : ℕ) (words : List ℕ) (n : ℕ) (after : List ℕ) : Type 0 where
-  pub fewest : take n after ≡ pack sysex7 group [] (dataOf bytes)
-  pub stays : drop n after ≡ drop n words
-  pub checks : (rest : List ℕ) → length (take n after ++ rest) ≤ mostWords
-      → checked sysex7 (take n after ++ rest) n ≡ gives (summary group [] (length (dataOf bytes)) n)
-  pub carries : (rest : List ℕ) → payloadOf sysex7 (take n after ++ rest) n ≡ dataOf bytes
 
 -- as many words are lent after as before
 streamed-length : (bytes : List ℕ) (group : ℕ) (words : List ℕ) (n : ℕ) (after : List ℕ) → Streamed bytes group words n after → n ≡ needed bytes → n ≤ length words

@@ -5,10 +5,13 @@ use mathlib.Core.Bool.{cond}
 use mathlib.Core.List.{List}
 use Prim.Native.Nat.{ℕ, _≤_}
 use lib.Dec.{ltb}
+use lib.IntN.{ℤ}
 use lib.ListN.{length, getD, take}
+use Rattle.refusal.specs.Answer.{Answer, gives}
 use Rattle.ump.specs.Packet.{Shape, groupAt, idAt}
 use Rattle.ump.specs.Packing.{wordsFor, pack}
 use Rattle.ump.specs.Check.{Valid, payloadOf}
+use Rattle.ump.specs.Splice.{Spliced}
 
 -- of so many words lent the first len hold a valid message of this group and id that carries these bytes
 pub record Holds (shape : Shape) (group : ℕ) (id bytes : List ℕ) (lent : ℕ) (words : List ℕ) (len : ℕ) : Type 0 where
@@ -28,3 +31,10 @@ pub record Fewest (shape : Shape) (group : ℕ) (id bytes : List ℕ) (lent : �
 -- reached, else the words as they were.
 pub record Behind (words : List ℕ) (most : ℕ) (left : List ℕ) (new : ℕ) : Type 0 where
   pub word : (i : ℕ) → new ≤ i → getD left i 0 ≡ cond (ltb i most) 0 (getD words i 0)
+
+-- an outcome that is no refusal, and whose message is the fewest-packet form of these bytes
+pub record Packed (shape : Shape) (group : ℕ) (id bytes : List ℕ) (lent : ℕ) (outcome : Answer Spliced × List ℕ) : Type 0 where
+  pub grew : ℤ
+  pub accepted : outcome .0 ≡ gives (record { length = wordsFor shape (length bytes); growth = grew })
+  pub holds : Holds shape group id bytes lent (outcome .1) (wordsFor shape (length bytes))
+  pub fewest : take (wordsFor shape (length bytes)) (outcome .1) ≡ pack shape group id bytes

@@ -20,6 +20,6 @@ pub mod Runs
 pub mod Origin
 pub mod Traces
 pub mod Worker
+pub mod Demand
 pub mod Meets
 pub mod Orders
-pub mod Demand

@@ -1,6 +1,6 @@
 -- The payload reader: the places of the bytes that a cursor has yet to read, and what it answers.
 -- Assumes nothing.
-use mathlib.Core.List.{List, [], _∷_, _++_}
+use mathlib.Core.List.{List, [], _∷_, _++_, map}
 use Prim.Native.Nat.{ℕ, zero, suc, _+_, _-_, _/_}
 use lib.ListN.{length, take, drop}
 use Rattle.refusal.specs.Answer.{Answer, gives, _▷_}
@@ -57,7 +57,21 @@ readFirst shape words left (place ∷ more) =
 unfoldable pub nth : Shape → List ℕ → Cursor → ℕ → Read
 nth shape words cursor n = readFirst shape words (cursor .remaining - (n + 1)) (drop n (unread shape words cursor))
 
+-- the cursor at the start of so many bytes
+abbrev pub startOf : ℕ → Cursor
+startOf size = record { packet = 0; byte = 0; remaining = size }
+
 -- a reader made over a message: the cursor at its start, or the check's refusal
 unfoldable pub reader : Shape → List ℕ → ℕ → Answer Cursor
-reader shape words len =
-    check shape words len ▷ gives (record { packet = 0; byte = 0; remaining = length (payloadOf shape words len) })
+reader shape words len = check shape words len ▷ gives (startOf (length (payloadOf shape words len)))
+
+-- ---- what is said of reading
+
+-- the bytes at some places
+abbrev pub bytesAt : Shape → List ℕ → List (ℕ × ℕ) → List ℕ
+bytesAt shape words at = map (λ place. byteAt shape words (place .0) (place .1)) at
+
+-- the first of some bytes, or the end
+abbrev pub stepOf : List ℕ → Step
+stepOf [] = ended
+stepOf (value ∷ more) = byte value

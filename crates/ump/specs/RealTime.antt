@@ -53,3 +53,10 @@ pub record PassesOver (Writes : Writer) : Type 0 where
       → Writes bytes group words (refused 18 place) left → (byte : ℕ) → realTime byte ≡ true → (k : ℕ) → 0 < k → k < length bytes
       → (then : Answer ℕ) (after : List ℕ) → Writes (spliced bytes k k (byte ∷ [])) group words then after
       → then ≡ refused 18 (cond (ltb place k) place (suc place))
+
+-- each outcome of such a call is the definition's, and there is one where that accepts
+pub record PromisedWriter (Writes : Writer) : Type 0 where
+  pub says : (bytes : List ℕ) (group : ℕ) (words : List ℕ) (answer : Answer ℕ) (left : List ℕ) → Writes bytes group words answer left
+      → (answer, left) ≡ toSysex7 bytes group words
+  pub can-answer : (bytes : List ℕ) (group : ℕ) (words : List ℕ) (n : ℕ) (left : List ℕ) → toSysex7 bytes group words ≡ (gives n, left)
+      → Writes bytes group words (gives n) left

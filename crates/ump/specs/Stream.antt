@@ -1,15 +1,16 @@
 -- A byte stream to SysEx7 packets: F0, data, F7 and a group. Real-time bytes between F0 and F7 are passed over.
 -- Assumes nothing.
+use mathlib.Core.Path.{_≡_}
 use mathlib.Core.Bool.{Bool, not, cond, _&&_, _||_}
 use mathlib.Core.List.{List, [], _∷_, _++_}
-use Prim.Native.Nat.{ℕ, suc, _-_}
+use Prim.Native.Nat.{ℕ, suc, _-_, _≤_}
 use lib.Dec.{eqb, ltb}
 use lib.ListN.{length, getD, take, drop}
-use Rattle.refusal.specs.Answer.{Answer, _▷_, guard, writes}
+use Rattle.refusal.specs.Answer.{Answer, gives, _▷_, guard, writes}
 use Rattle.ump.specs.Packet.{sysex7}
 use Rattle.ump.specs.Packing.{pack, wordsFor}
 use Rattle.ump.specs.Limits.{mostWords}
-use Rattle.ump.specs.Check.{firstWhere}
+use Rattle.ump.specs.Check.{firstWhere, payloadOf, summary, checked}
 
 -- under 2 bytes, first not F0 or last not F7
 abbrev pub badFrame : List ℕ → Bool
@@ -59,3 +60,21 @@ toPackets bad taken bytes group words =
 -- the call: 80 to F7 are bad, and real-time bytes are no data
 unfoldable pub toSysex7 : List ℕ → ℕ → List ℕ → Answer ℕ × List ℕ
 toSysex7 bytes group words = toPackets badByte dataOf bytes group words
+
+-- ---- what is said of the call
+
+-- the first byte of 80 to F7, and the words that the data needs
+abbrev pub badAt : List ℕ → ℕ
+badAt bytes = firstBad badByte (between bytes)
+
+abbrev pub needed : List ℕ → ℕ
+needed bytes = wordsFor sysex7 (length (dataOf bytes))
+
+-- the words lent, after a call that writes n of them: the fewest-packet form of the data, then what stood there; those n are a valid
+-- message that carries the data, whatever stands behind them
+pub record Streamed (bytes : List ℕ) (group : ℕ) (words : List ℕ) (n : ℕ) (after : List ℕ) : Type 0 where
+  pub fewest : take n after ≡ pack sysex7 group [] (dataOf bytes)
+  pub stays : drop n after ≡ drop n words
+  pub checks : (rest : List ℕ) → length (take n after ++ rest) ≤ mostWords
+      → checked sysex7 (take n after ++ rest) n ≡ gives (summary group [] (length (dataOf bytes)) n)
+  pub carries : (rest : List ℕ) → payloadOf sysex7 (take n after ++ rest) n ≡ dataOf bytes

@@ -7,8 +7,8 @@ use Prim.Native.Nat.{ℕ, _-_, _*_, _≤_, _<_}
 use native.Mathlib.Numerals.{add-one}
 use native.Mathlib.Omega.{arith}
 use lib.ListN.{length, drop, length-take}
-use Rattle.ump.specs.Stream.{badFrame, between, dataOf}
-use Rattle.ump.proofs.Streaming.{badAt, needed, stream-long, stream-field, stream-frame, stream-byte, stream-room, stream-done}
+use Rattle.ump.specs.Stream.{badFrame, between, dataOf, badAt, needed}
+use Rattle.ump.proofs.Streaming.{stream-long, stream-field, stream-frame, stream-byte, stream-room, stream-done}
 use Rattle.stream.specs.Steps.{countBelow}
 use Rattle.stream.proofs.Frames.{framed-long, cut}
 use Rattle.stream.proofs.Counting.{sorted}

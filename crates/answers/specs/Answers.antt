@@ -74,16 +74,16 @@ rangeAnswer (gives range) = record { refusal = 0; place = 0; from = range .from;
 rangeAnswer (refused number place) = record { refusal = number; place = place; from = 0; to = 0 }
 
 -- the kind of an origin, and its numbers
-abbrev pub comes : ℕ → ℕ → ℕ → OriginAnswer
-comes kind number index = record { refusal = 0; place = 0; kind = kind; number = number; index = index }
+abbrev pub originStruct : ℕ → ℕ → ℕ → OriginAnswer
+originStruct kind number index = record { refusal = 0; place = 0; kind = kind; number = number; index = index }
 
 abbrev pub originAnswer : Answer Origin → OriginAnswer
-originAnswer (gives (headerOctet packet octet)) = comes 0 packet octet
-originAnswer (gives (carried (dumpByte byte))) = comes 1 0 byte
-originAnswer (gives (carried (editByte edit byte))) = comes 2 edit byte
-originAnswer (gives filler) = comes 3 0 0
-originAnswer (gives zeroed) = comes 4 0 0
-originAnswer (gives untouched) = comes 5 0 0
+originAnswer (gives (headerOctet packet octet)) = originStruct 0 packet octet
+originAnswer (gives (carried (dumpByte byte))) = originStruct 1 0 byte
+originAnswer (gives (carried (editByte edit byte))) = originStruct 2 edit byte
+originAnswer (gives filler) = originStruct 3 0 0
+originAnswer (gives zeroed) = originStruct 4 0 0
+originAnswer (gives untouched) = originStruct 5 0 0
 originAnswer (refused number place) = record { refusal = number; place = place; kind = 0; number = 0; index = 0 }
 
 abbrev pub cursorAnswer : Answer paper.Cursor → CursorAnswer
@@ -101,9 +101,9 @@ abbrev pub readAnswer : paper.Read → ReadAnswer
 readAnswer read = stepAnswer (read .step) (read .cursor)
 
 -- whether a dump is a delta, and its base, 0 where it is whole
-abbrev pub isDelta : Option ℕ → Bool
-isDelta none = false
-isDelta (some base) = true
+abbrev pub hasBase : Option ℕ → Bool
+hasBase none = false
+hasBase (some base) = true
 
 abbrev pub baseNumber : Option ℕ → ℕ
 baseNumber none = 0
@@ -114,7 +114,7 @@ dumpAnswer (gives dump) =
     record {
       refusal = 0;
       place = 0;
-      delta = isDelta (dump .base);
+      delta = hasBase (dump .base);
       group = dump .group;
       id = dump .id;
       base = baseNumber (dump .base);

@@ -10,11 +10,12 @@ use Rattle.refusal.specs.Answer.{Answer, gives, refused}
 use Rattle.refusal.specs.Number.{numberOf}
 use Rattle.refusal.specs.declared.Refusal.{Refusal}
 use Rattle.refusal.specs.declared.Refusal.the-variants.{Range}
+use Rattle.ump.specs.Word.{pairAt}
 use Rattle.ump.specs.Edits.{Patch, replaced}
-use Rattle.store.specs.Store.{isWhole, isDump, Dump, patchesIn, dumpsOf, held, pairAt}
+use Rattle.store.specs.Store.{isWhole, isDump, Dump, patchesIn, dumpsOf, held}
 use Rattle.store.specs.Places.{nextAt, recordsFrom, dumpAt}
 use Rattle.chain.specs.Walk.{baseOf, fromBase}
-use Rattle.chain.specs.Restore.{Payload, roomed, outside, rebuilt, restored, unlimited, sizeOf, sizes, largest}
+use Rattle.chain.specs.Restore.{Payload, roomed, outside, rebuilt, restored, unlimited, payloadSize, sizes, largest}
 use Rattle.chain.specs.Laying.{wholeAt, MeasureOf, Measures, MeasuresWhole, DeltaMeasure, MeasuresDelta}
 use Rattle.chain.specs.declared.measuring.Extent.{Extent}
 use Rattle.chain.specs.declared.measuring.Measured.{Measured}
@@ -56,7 +57,7 @@ module _ (patches : List Patch) (base : Extent) where
 -- ---- one step of the walk
 
 sizes-step : (ds : List Dump) (left n : ℕ) → (left ≡ 0 → ⊥)
-    → sizes ds left n ≡ sizeOf (restored unlimited ds left n) ∷ fromBase [] (λ base. sizes ds (left - 1) base) (baseOf (held ds n))
+    → sizes ds left n ≡ payloadSize (restored unlimited ds left n) ∷ fromBase [] (λ base. sizes ds (left - 1) base) (baseOf (held ds n))
 unfolding sizes
 sizes-step ds zero n h = absurd (h refl)
 sizes-step ds (suc left) n h = let q : suc left - 1 ≡ left = omega arith in rw q
@@ -69,7 +70,7 @@ module _ (store : List ℕ) (left n : ℕ) (h : left ≡ 0 → ⊥) (at : ℕ) (
       let is : restored unlimited (dumpsOf store) left n ≡ gives (wholeAt store at) = sym (step-whole unlimited store left n h at d q e) in
       let none-below : baseOf (held (dumpsOf store) n) ≡ none = ap baseOf (sym q) ∙ whole-base store at d e in
       let list : sizes (dumpsOf store) left n ≡ length (wholeAt store at .bytes) ∷ [] = sizes-step (dumpsOf store) left n h
-      ∙ ap (λ (a : Answer Payload). sizeOf a ∷ fromBase [] (λ base. sizes (dumpsOf store) (left - 1) base) (baseOf (held (dumpsOf store) n))) is
+      ∙ ap (λ (a : Answer Payload). payloadSize a ∷ fromBase [] (λ base. sizes (dumpsOf store) (left - 1) base) (baseOf (held (dumpsOf store) n))) is
       ∙ ap (λ (o : Option ℕ). length (wholeAt store at .bytes) ∷ fromBase [] (λ base. sizes (dumpsOf store) (left - 1) base) o) none-below in
       record {
         payload = wholeAt store at;
@@ -103,7 +104,7 @@ module _ (store : List ℕ) (left n : ℕ) (h : left ≡ 0 → ⊥) (at : ℕ) (
         let is : restored unlimited (dumpsOf store) left n ≡ gives payload = sym above ∙ rw good in
         let size : m .size ≡ length bytes = f .size .is (b .payload .bytes) (sym (b .size)) in
         let list : sizes (dumpsOf store) left n ≡ length bytes ∷ sizes (dumpsOf store) (left - 1) number = sizes-step (dumpsOf store) left n h
-        ∙ ap (λ (a : Answer Payload). sizeOf a ∷ fromBase [] (λ base. sizes (dumpsOf store) (left - 1) base) (baseOf (held (dumpsOf store) n))) is
+        ∙ ap (λ (a : Answer Payload). payloadSize a ∷ fromBase [] (λ base. sizes (dumpsOf store) (left - 1) base) (baseOf (held (dumpsOf store) n))) is
         ∙ ap (λ (o : Option ℕ). length bytes ∷ fromBase [] (λ base. sizes (dumpsOf store) (left - 1) base) o)
         (ap baseOf (sym q) ∙ delta-base store at d e ∙ ap some (sym w)) in
         record {

@@ -17,7 +17,7 @@ use Rattle.ump.specs.Edits.{Patch, replaced}
 use Rattle.ump.proofs.Sizes.{words-mono}
 use Rattle.store.specs.Store.{Dump, whole, delta, held}
 use Rattle.chain.specs.Walk.{baseOf, fromBase, comes, Rests}
-use Rattle.chain.specs.Restore.{Payload, exceeds, roomed, outside, rebuilt, restoredBy, restored, unlimited, sizeOf, sizes, largest}
+use Rattle.chain.specs.Restore.{Payload, exceeds, roomed, outside, rebuilt, restoredBy, restored, unlimited, payloadSize, sizes, largest}
 use Rattle.chain.proofs.Walks.{rests-base, rebuilt-refused}
 use Rattle.chain.proofs.Making.{rebuiltFrom, Made, of-whole, of-delta, made}
 
@@ -74,14 +74,14 @@ module _ (tooLong : ℕ → Bool) (ds : List Dump) where
   given-fits (suc left) n {p} e = go (λ b q h. given-fits left b h) (made tooLong ds left n e)
     where
       fits : {a : Answer Payload} → a ≡ gives p → tooLong (length (p .bytes)) ≡ false → (ns : List ℕ) → AllFit tooLong ns
-          → (a ≡ gives p) × AllFit tooLong (sizeOf a ∷ ns)
-      fits i r ns f = (i, (ap (λ (a : Answer Payload). tooLong (sizeOf a)) i ∙ r, f))
+          → (a ≡ gives p) × AllFit tooLong (payloadSize a ∷ ns)
+      fits i r ns f = (i, (ap (λ (a : Answer Payload). tooLong (payloadSize a)) i ∙ r, f))
 
       go : ((b : ℕ) (q : Payload) → restored tooLong ds left b ≡ gives q
           → (restored unlimited ds left b ≡ gives q) × AllFit tooLong (sizes ds left b)) → Made tooLong ds left n p
           → (restoredBy unlimited (λ b. restored unlimited ds left b) (held ds n) ≡ gives p)
           × AllFit tooLong
-          (sizeOf (restoredBy unlimited (λ b. restored unlimited ds left b) (held ds n))
+          (payloadSize (restoredBy unlimited (λ b. restored unlimited ds left b) (held ds n))
           ∷ fromBase [] (λ b. sizes ds left b) (baseOf (held ds n)))
       go more (of-whole group id bytes t r s) = rw t (fits (roomed-is unlimited _ refl ∙ ap gives s) r [] tt)
       go more (of-delta base patches t b) =
@@ -202,7 +202,7 @@ module _ (lent : ℕ) (ds : List Dump) where
   needs-all zero n e = never-refused e
   needs-all (suc left) n e =
       let f = given-fits (exceeds lent) ds (suc left) n e in
-      let size = sizeOf (restored unlimited ds (suc left) n) in
+      let size = payloadSize (restored unlimited ds (suc left) n) in
       let first = ltb-false lent (wordsFor sysex8 size) (f .1 .0) in
       (f .0, fits-largest lent (sizes ds (suc left) n) (omega (arith, first, words-mono sysex8 0 size (omega arith))) (f .1))
 

@@ -9,10 +9,10 @@ use lib.ListN.{length}
 use borrow.Author.Tests.{eqb-true, eq-eqb}
 use Rattle.ump.specs.Edits.{elem}
 use Rattle.store.specs.Store.{Dump, whole, delta, dumpNumber, numbersOf, twice, held}
-use Rattle.chain.specs.Walk.{baseOf, fromBase}
-use Rattle.chain.specs.Restore.{rebuilt, restoredBy, restored, unlimited, sizeOf, sizes, described}
-use Rattle.chain.specs.Chained.{Shuffled, nothing, keep, swap, also}
 use Rattle.store.proofs.Records.{not-both}
+use Rattle.chain.specs.Walk.{baseOf, fromBase}
+use Rattle.chain.specs.Restore.{rebuilt, restoredBy, restored, unlimited, payloadSize, sizes, described}
+use Rattle.chain.specs.Chained.{Shuffled, nothing, keep, swap, also}
 use Rattle.chain.proofs.Outside.{or-false}
 
 -- ---- dumps that agree on the numbers that a walk comes to
@@ -37,7 +37,7 @@ module _ (ds es : List Dump) (On : ℕ → Type 0) (agree : (m : ℕ) → On m �
       rw (← (agree n on), restored-agree unlimited (suc left) n on) (go (λ b h. sizes-agree left b h) (baseOf (held ds n)) refl)
     where
       size : ℕ
-      size = sizeOf (restored unlimited es (suc left) n)
+      size = payloadSize (restored unlimited es (suc left) n)
 
       go : ((b : ℕ) → On b → sizes ds left b ≡ sizes es left b) → (o : Option ℕ) → baseOf (held ds n) ≡ o
           → (size ∷ fromBase [] (λ b. sizes ds left b) o) ≡ size ∷ fromBase [] (λ b. sizes es left b) o

@@ -5,12 +5,13 @@ use mathlib.Core.List.{List}
 use Prim.Native.Nat.{ℕ, _+_, _<_}
 use lib.Dec.{ltb}
 use lib.ListN.{length, getD}
-use Rattle.store.specs.Store.{isEdit, isData, patchesIn, pairAt}
+use Rattle.ump.specs.Word.{pairAt}
+use Rattle.store.specs.Store.{isEdit, isData, patchesIn}
 use Rattle.store.specs.Places.{nextAt, recordsFrom}
 use Rattle.store.proofs.Records.{not-both}
 use Rattle.store.proofs.Parts.{kind-inside, patches-data, patches-edit, patches-stop}
 use Rattle.chain.specs.Restore.{outside}
-use Rattle.chain.specs.Laying.{badAt}
+use Rattle.chain.specs.Laying.{badEditAt}
 
 or-cases : (b c : Bool) → (b || c) ≡ true → (b ≡ false → c ≡ true)
 or-cases true c h e = not-both refl e
@@ -28,7 +29,7 @@ unfolding isData
 part-inside store at e = kind-inside isPart refl store at e
 
 module _ (store : List ℕ) (at n : ℕ) where
-  pub out-bad : badAt store at n ≡ true → true ≡ outside n (patchesIn (recordsFrom store at))
+  pub out-bad : badEditAt store at n ≡ true → true ≡ outside n (patchesIn (recordsFrom store at))
   unfolding outside
   out-bad e = go (isEdit (getD store at 0)) refl e
     where
@@ -37,7 +38,7 @@ module _ (store : List ℕ) (at n : ℕ) where
       go true p h = rw (patches-edit store at p, h)
       go false p h = not-both h refl
 
-  pub out-past : isPart (getD store at 0) ≡ true → badAt store at n ≡ false
+  pub out-past : isPart (getD store at 0) ≡ true → badEditAt store at n ≡ false
       → outside n (patchesIn (recordsFrom store at)) ≡ outside n (patchesIn (recordsFrom store (nextAt store at)))
   unfolding outside
   out-past q e = go (isEdit (getD store at 0)) refl e

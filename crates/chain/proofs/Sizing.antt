@@ -8,12 +8,13 @@ use lib.Dec.{ltb}
 use lib.ListN.{length, getD, take, drop, length-append, length-take, length-drop}
 use lib.Seq.{length-take-le, slice, length-slice}
 use borrow.Author.Tests.{ltb-false}
+use Rattle.ump.specs.Word.{pairAt}
 use Rattle.ump.specs.Edits.{Patch, replaced}
-use Rattle.store.specs.Store.{isEdit, isData, bodySize, dataIn, patchesIn, pairAt}
+use Rattle.store.specs.Store.{isEdit, isData, bodySize, dataIn, patchesIn}
 use Rattle.store.specs.Places.{recordAt, nextAt, recordsFrom}
+use Rattle.store.specs.Places.{Ordered}
 use Rattle.store.proofs.Parts.{edit-inside, data-step, data-stop, patches-data, patches-edit, patches-stop}
 use Rattle.chain.specs.Restore.{outside}
-use Rattle.store.specs.Places.{Ordered}
 use Rattle.chain.specs.Laying.{Past, Sized, Becomes}
 use Rattle.chain.specs.declared.edits.Reached.{Reached}
 use Rattle.chain.proofs.Outside.{or-false}

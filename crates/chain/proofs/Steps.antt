@@ -7,16 +7,17 @@ use Prim.Native.Nat.{ℕ, zero, suc, _+_, _-_, _<_}
 use native.Mathlib.Omega.{arith}
 use lib.ListN.{length, getD}
 use Rattle.refusal.specs.Answer.{Answer, gives, refused}
-use Rattle.store.specs.Store.{isWhole, isDump, isData, pairAt, Dump, delta, dumpOf, dumpsOf, patchesIn, held}
-use Rattle.chain.specs.Walk.{baseOf}
-use Rattle.chain.specs.Restore.{Payload, roomed, rebuilt, restoredBy, restored}
+use Rattle.ump.specs.Word.{pairAt}
+use Rattle.store.specs.Store.{isWhole, isDump, isData, Dump, delta, dumpOf, dumpsOf, patchesIn, held}
 use Rattle.store.specs.Places.{recordAt, nextAt, recordsFrom, dumpAt}
 use Rattle.store.specs.declared.finding.Found.{Found}
 use Rattle.store.specs.declared.finding.Found.the-variants as found
 use Rattle.store.specs.Meaning.{Stands, FoundInside}
-use Rattle.chain.specs.Laying.{wholeAt}
 use Rattle.store.proofs.Records.{data-low, body-byte, body-pair}
 use Rattle.store.proofs.Dumps.{dump-small}
+use Rattle.chain.specs.Walk.{baseOf}
+use Rattle.chain.specs.Restore.{Payload, roomed, rebuilt, restoredBy, restored}
+use Rattle.chain.specs.Laying.{wholeAt}
 use Rattle.chain.proofs.Walks.{rebuilt-refused}
 
 -- ---- the walk

@@ -9,8 +9,9 @@ use lib.ListN.{length, getD}
 use Rattle.refusal.specs.Answer.{gives, refused}
 use Rattle.refusal.specs.Number.{numberOf}
 use Rattle.refusal.specs.declared.Refusal.{Refusal}
+use Rattle.ump.specs.Word.{pairAt}
 use Rattle.ump.specs.Edits.{Patch, replaced}
-use Rattle.store.specs.Store.{isEdit, isData, Dump, dataIn, patchesIn, pairAt}
+use Rattle.store.specs.Store.{isEdit, isData, Dump, dataIn, patchesIn}
 use Rattle.store.specs.Places.{recordAt, nextAt, recordsFrom}
 use Rattle.chain.specs.Restore.{Payload, outside, restored, unlimited, sizes, largest}
 use Rattle.chain.specs.declared.edits.Reached.{Reached}
@@ -21,8 +22,8 @@ use Rattle.chain.specs.declared.measuring.Measured.the-variants as measu
 -- ---- the edits of a delta
 
 -- an edit at a place that is reversed or past n bytes
-abbrev pub badAt : List ℕ → ℕ → ℕ → Bool
-badAt store at n =
+abbrev pub badEditAt : List ℕ → ℕ → ℕ → Bool
+badEditAt store at n =
     isEdit (getD store at 0)
     && (ltb (pairAt store (at + 3)) (pairAt store (at + 1)) || ltb n (pairAt store (at + 3)))
 

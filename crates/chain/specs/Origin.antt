@@ -13,7 +13,7 @@ use Rattle.ump.specs.Runs.{Run, ofDump, ofEdit, past, runAt}
 use Rattle.ump.specs.Origin.{Origin, headerOctet, carried, dumpByte, editByte, filler, zeroed, untouched, originIn, headerOctets}
 use Rattle.store.specs.Store.{Dump, whole, delta, held}
 use Rattle.chain.specs.Walk.{comes}
-use Rattle.chain.specs.Restore.{Payload, unlimited, restored, sizeOf}
+use Rattle.chain.specs.Restore.{Payload, unlimited, restored, payloadSize}
 
 -- ---- bytes of a payload
 
@@ -37,7 +37,7 @@ sourceIn size f (some (delta number base patches)) i = sourceBy (f base) number 
 unfoldable pub sourceOf : List Dump → ℕ → ℕ → ℕ → Provenance
 sourceOf dumps zero n i = nowhere
 sourceOf dumps (suc left) n i =
-    sourceIn (λ base. sizeOf (restored unlimited dumps left base)) (λ base j. sourceOf dumps left base j) (held dumps n) i
+    sourceIn (λ base. payloadSize (restored unlimited dumps left base)) (λ base j. sourceOf dumps left base j) (held dumps n) i
 
 -- the byte that comes from there
 abbrev pub heldByte : Option Dump → ℕ → ℕ → ℕ

@@ -87,15 +87,15 @@ pub record Description : Type 0 where
 abbrev pub unlimited : ℕ → Bool
 unlimited size = false
 
-abbrev pub sizeOf : Answer Payload → ℕ
-sizeOf (gives payload) = length (payload .bytes)
-sizeOf (refused number place) = 0
+abbrev pub payloadSize : Answer Payload → ℕ
+payloadSize (gives payload) = length (payload .bytes)
+payloadSize (refused number place) = 0
 
 -- the payload sizes of a dump and of those that it rests on, in turn
 unfoldable pub sizes : List Dump → ℕ → ℕ → List ℕ
 sizes dumps zero n = []
 sizes dumps (suc left) n =
-    sizeOf (restored unlimited dumps (suc left) n) ∷ fromBase [] (λ base. sizes dumps left base) (baseOf (held dumps n))
+    payloadSize (restored unlimited dumps (suc left) n) ∷ fromBase [] (λ base. sizes dumps left base) (baseOf (held dumps n))
 
 abbrev pub largest : List ℕ → ℕ
 largest [] = 0

@@ -6,7 +6,7 @@ ghost use lib.ListN.{length};
 ghost use Rattle.store.specs.Store.{isEdit, isData, patchesIn};
 ghost use Rattle.store.specs.Places.{recordsFrom};
 ghost use Rattle.chain.specs.Restore.{outside};
-ghost use Rattle.chain.specs.Laying.{badAt, Past};
+ghost use Rattle.chain.specs.Laying.{badEditAt, Past};
 use store::record::byte;
 use store::record::is_data;
 use store::record::is_edit;
@@ -43,7 +43,7 @@ fn is_part(kind: u8) -> bool
 // Whether an edit stands at a place that is reversed or past a payload of `size` bytes.
 fn is_bad_edit(store: &[u8], at: usize, size: usize) -> bool
     requires { ⌜ at < length (now store) ⌝ }
-    ensures { λ r. ⌜ r ≡ badAt (now (store .entry)) at size ⌝ }
+    ensures { λ r. ⌜ r ≡ badEditAt (now (store .entry)) at size ⌝ }
 {
     if !is_edit(store[at]) {
         return false;

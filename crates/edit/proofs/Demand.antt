@@ -22,7 +22,7 @@ use Rattle.splice.specs.declared.sysex8.Repacked.the-variants as repacked
 use Rattle.splice.specs.declared.sysex8.Spliced.the-variants as spliced
 use Rattle.edit.specs.Meaning.{originMeaning}
 use Rattle.edit.specs.declared.Moved.the-variants as moving
-use Rattle.edit.proofs.Once.{originBack}
+use Rattle.edit.proofs.AnswersFixed.{originBack}
 use Rattle.edit.proofs.Worker.{struct, Moves, family}
 use Rattle.edit.proofs.Audit as audit
 

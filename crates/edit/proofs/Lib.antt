@@ -1,9 +1,9 @@
 pub mod Laws
 pub mod Lists
 pub mod Apart
-pub mod Whole
+pub mod AtOnceCases
 pub mod Walking
-pub mod Once
+pub mod AnswersFixed
 pub mod Unique
 pub mod ShutOut
 pub mod Worker

@@ -4,7 +4,7 @@ use Rattle.refusal.specs.Tight.{FixesResult, FixesOutcome}
 use Rattle.refusal.proofs.Tight.{both-fixed}
 use Rattle.splice.specs.Meaning.{splicedMeaning}
 use Rattle.splice.proofs.Unique.{spliced-once}
-use Rattle.edit.proofs.Once.{grown-once, moved-once, origin-once}
+use Rattle.edit.proofs.AnswersFixed.{grown-once, moved-once, origin-once}
 use Rattle.edit.proofs.growth.Kinds as growth-kinds
 use Rattle.edit.proofs.growth.Reads as growth
 use Rattle.edit.proofs.move_edit.Kinds as move-kinds

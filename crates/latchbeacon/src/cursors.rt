@@ -42,7 +42,8 @@ pub extern "C" fn latchbeacon_sysex8_nth(
     remaining: usize,
     skip: usize,
 ) -> ReadAnswer
-    ensures { λ r. ⌜ r ≡ readAnswer (nth sysex8 (now (words .entry)) (record { packet = packet; byte = byte; remaining = remaining }) skip) ⌝ }
+    ensures { λ r. ⌜ r
+        ≡ readAnswer (nth sysex8 (now (words .entry)) (record { packet = packet; byte = byte; remaining = remaining }) skip) ⌝ }
 {
     let cursor = Cursor {
         packet,

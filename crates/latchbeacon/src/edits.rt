@@ -26,7 +26,9 @@ pub extern "C" fn latchbeacon_move_edit(
     pending_length: usize,
     done_first: bool,
 ) -> RangeAnswer
-    ensures { λ r. ⌜ r ≡ rangeAnswer (moveEdit (record { from = «done_from»; to = «done_to»; length = «done_length» }) (record { from = «pending_from»; to = «pending_to»; length = «pending_length» }) «done_first») ⌝ }
+    ensures { λ r. ⌜ r
+        ≡ rangeAnswer (moveEdit (record { from = «done_from»; to = «done_to»; length = «done_length» })
+        (record { from = «pending_from»; to = «pending_to»; length = «pending_length» }) «done_first») ⌝ }
 {
     let done = Edit {
         from: done_from,

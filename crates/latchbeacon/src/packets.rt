@@ -25,7 +25,8 @@ pub extern "C" fn latchbeacon_sysex8_packet_byte(words: &[u32], index: usize) ->
 // Sets the group of the SysEx8 packet; Short, Type, Status, Count, Field.
 #[no_mangle]
 pub extern "C" fn latchbeacon_sysex8_packet_set_group(words: &mut [u32], group: u8) -> NumberAnswer
-    ensures { λ r. ⌜ (r, now (words .exit)) ≡ leaving doneAnswer (setPacketGroup (readPacket8 (now (words .entry))) (now (words .entry)) group) ⌝ }
+    ensures { λ r. ⌜ (r, now (words .exit))
+        ≡ leaving doneAnswer (setPacketGroup (readPacket8 (now (words .entry))) (now (words .entry)) group) ⌝ }
 {
     answers::stored(packet::sysex8::set_group(words, group))
 }
@@ -49,7 +50,8 @@ pub extern "C" fn latchbeacon_sysex7_packet_byte(words: &[u32], index: usize) ->
 // Sets the group of the SysEx7 packet; Short, Type, Count, Status, Field.
 #[no_mangle]
 pub extern "C" fn latchbeacon_sysex7_packet_set_group(words: &mut [u32], group: u8) -> NumberAnswer
-    ensures { λ r. ⌜ (r, now (words .exit)) ≡ leaving doneAnswer (setPacketGroup (readPacket7 (now (words .entry))) (now (words .entry)) group) ⌝ }
+    ensures { λ r. ⌜ (r, now (words .exit))
+        ≡ leaving doneAnswer (setPacketGroup (readPacket7 (now (words .entry))) (now (words .entry)) group) ⌝ }
 {
     answers::stored(packet::sysex7::set_group(words, group))
 }

@@ -35,7 +35,8 @@ pub extern "C" fn latchbeacon_sysex8_splice(
     to: usize,
     replacement: &[u8],
 ) -> ChangeAnswer
-    ensures { λ r. ⌜ (r, now (words .exit)) ≡ leaving changeAnswer (splice sysex8 (now (words .entry)) length from to (now (replacement .entry))) ⌝ }
+    ensures { λ r. ⌜ (r, now (words .exit))
+        ≡ leaving changeAnswer (splice sysex8 (now (words .entry)) length from to (now (replacement .entry))) ⌝ }
 {
     answers::change(splice::sysex8::splice(words, length, from, to, replacement))
 }
@@ -61,7 +62,8 @@ pub extern "C" fn latchbeacon_sysex8_splice_all(
     numbers: &[usize],
     bytes: &[u8],
 ) -> ChangeAnswer
-    ensures { λ r. ⌜ (r, now (words .exit)) ≡ leaving changeAnswer (spliceAll sysex8 (now (words .entry)) length (now (numbers .entry)) (now (bytes .entry))) ⌝ }
+    ensures { λ r. ⌜ (r, now (words .exit))
+        ≡ leaving changeAnswer (spliceAll sysex8 (now (words .entry)) length (now (numbers .entry)) (now (bytes .entry))) ⌝ }
 {
     answers::change(edit::splice_all(words, length, numbers, bytes))
 }

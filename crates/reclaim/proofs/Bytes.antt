@@ -5,7 +5,8 @@ use mathlib.Core.List.{List, [], _∷_, _++_, append-nil, append-assoc}
 use Prim.Native.Nat.{ℕ, zero, suc}
 use lib.ListN.{length, getD, take, drop, take-append-drop}
 use lib.Seq.{take-at, drop-at}
-use Rattle.store.specs.Store.{isWhole, isDelta, isDump, isEdit, isData, bodySize, Record, recordsAfter, recordsOf, pairAt, atStart, followsBy, allowedBy, follows, allowed, fits, wellFormed, Dump, dataIn, patchesIn, dumpOf, dumpsIn, dumpsOf}
+use Rattle.ump.specs.Word.{pairAt}
+use Rattle.store.specs.Store.{isWhole, isDelta, isDump, isEdit, isData, bodySize, Record, recordsAfter, recordsOf, atStart, followsBy, allowedBy, follows, allowed, fits, wellFormed, Dump, dataIn, patchesIn, dumpOf, dumpsIn, dumpsOf}
 use Rattle.store.specs.declared.format.Follow.{Follow}
 use Rattle.store.proofs.Records.{records-skip}
 use Rattle.store.proofs.Forms.{All, form-step, fit-parts}

@@ -10,7 +10,8 @@ use lib.ListN.{length, getD, take, drop, replicate, length-drop, drop-of-length-
 use lib.Seq.{take-all, paste, length-paste-head, take-paste, drop-paste, getD-append-add, getD-drop, drop-drop, drop-cons, length-take-le}
 use borrow.Author.Tests.{ltb-true, ltb-false}
 use Rattle.refusal.specs.Answer.{gives, refused, pass}
-use Rattle.store.specs.Store.{isDump, bodySize, Record, recordsOf, pairAt, sound}
+use Rattle.ump.specs.Word.{pairAt}
+use Rattle.store.specs.Store.{isDump, bodySize, Record, recordsOf, sound}
 use Rattle.store.specs.Places.{recordAt, recordsFrom, flagged}
 use Rattle.store.proofs.Records.{not-both, records-end, records-step}
 use Rattle.store.proofs.Dumps.{number-body}

@@ -8,9 +8,10 @@ use lib.Dec.{eqb}
 use lib.ListN.{length, getD, take, drop, set, take-append-drop}
 use lib.Seq.{take-all, take-add, drop-cons, drop-drop, set-split}
 use borrow.Author.Tests.{eqb-true, eqb-false, eq-eqb, ne-eqb}
+use Rattle.ump.specs.Word.{pairAt}
 use Rattle.ump.specs.Edits.{elem}
 use Rattle.refusal.specs.Answer.{refused, Verdict, pass}
-use Rattle.store.specs.Store.{isWanted, isDump, bodySize, Record, recordsOf, pairAt, Dump, dumpNumber, dumpsIn, dumpsOf, numbersOf, sound}
+use Rattle.store.specs.Store.{isWanted, isDump, bodySize, Record, recordsOf, Dump, dumpNumber, dumpsIn, dumpsOf, numbersOf, sound}
 use Rattle.store.specs.Places.{recordAt, nextAt, recordsFrom, dumpsFrom, dumpAt}
 use Rattle.store.proofs.Records.{and-true, records-end, records-step}
 use Rattle.store.proofs.Dumps.{dumps-end, dumps-here, dumps-past, number-body, number-here}

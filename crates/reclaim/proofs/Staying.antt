@@ -10,7 +10,7 @@ use lib.ListN.{length}
 use Rattle.refusal.specs.Answer.{refused}
 use Rattle.store.specs.Store.{Dump, whole, delta, dumpsOf, held}
 use Rattle.chain.specs.Walk.{baseOf, fromBase, comes, InRing}
-use Rattle.chain.specs.Restore.{restored, unlimited, sizeOf, sizes, described}
+use Rattle.chain.specs.Restore.{restored, unlimited, payloadSize, sizes, described}
 use Rattle.chain.proofs.Walks.{End, ring, missing, rests, endOf, walk, ring-is, ring-restored, restored-more, begun}
 use Rattle.chain.proofs.Orders.{restored-agree, described-agree}
 use Rattle.reclaim.specs.Reclaim.{stays}
@@ -30,7 +30,7 @@ module _ (ds : List Dump) where
       rw (suc-add, same) (go (λ b w. sizes-more left b k w) (held ds n) h)
     where
       size : ℕ
-      size = sizeOf (restored unlimited ds (suc left) n)
+      size = payloadSize (restored unlimited ds (suc left) n)
 
       go : ((b : ℕ) → (walk ds left b ≡ ring → ⊥) → sizes ds (left + k) b ≡ sizes ds left b) → (o : Option Dump)
           → (endOf o (λ b. walk ds left b) ≡ ring → ⊥)

@@ -9,9 +9,10 @@ use native.Mathlib.Omega.{arith}
 use lib.Dec.{eqb}
 use lib.ListN.{length, getD, replicate, length-replicate}
 use borrow.Author.Tests.{eqb-true, eq-eqb}
+use Rattle.ump.specs.Word.{pairAt}
 use Rattle.ump.specs.Edits.{elem}
 use Rattle.ump.proofs.Replace.{or-right-true}
-use Rattle.store.specs.Store.{isWanted, pairAt, Dump, numbersOf, dumpsOf, held}
+use Rattle.store.specs.Store.{isWanted, Dump, numbersOf, dumpsOf, held}
 use Rattle.store.specs.Places.{nextAt, recordsFrom, flagged, Flags}
 use Rattle.store.proofs.Records.{not-both, records-end, records-step}
 use Rattle.store.proofs.Dumps.{number-body}

@@ -6,8 +6,9 @@ use Prim.Native.Nat.{ℕ, zero, suc, _+_, _-_}
 use lib.Dec.{eqb}
 use lib.ListN.{length, replicate}
 use Rattle.refusal.specs.Answer.{Answer, Verdict, _▷_, guard, writes}
+use Rattle.ump.specs.Word.{pairAt}
 use Rattle.ump.specs.Edits.{elem}
-use Rattle.store.specs.Store.{isWanted, isDump, Record, recordsOf, pairAt, Dump, dumpsOf, held, numbersOf, sound}
+use Rattle.store.specs.Store.{isWanted, isDump, Record, recordsOf, Dump, dumpsOf, held, numbersOf, sound}
 use Rattle.chain.specs.Walk.{baseOf, fromBase}
 
 -- the number in a record that begins a dump

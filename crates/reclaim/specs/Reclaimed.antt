@@ -9,9 +9,10 @@ use Prim.Native.Nat.{ℕ, suc, _+_, _-_, _≤_, _<_}
 use lib.Dec.{eqb}
 use lib.ListN.{length, getD, take, drop, set, replicate}
 use Rattle.refusal.specs.Answer.{Answer, gives, refused, Verdict, pass}
+use Rattle.ump.specs.Word.{pairAt}
 use Rattle.ump.specs.Limits.{mostWords}
 use Rattle.ump.specs.Edits.{elem}
-use Rattle.store.specs.Store.{check, isDump, recordsOf, pairAt, atStart, wellFormed, Dump, dumpNumber, dumpsOf, held, numbersOf, sound}
+use Rattle.store.specs.Store.{check, isDump, recordsOf, atStart, wellFormed, Dump, dumpNumber, dumpsOf, held, numbersOf, sound}
 use Rattle.chain.specs.Walk.{comes}
 use Rattle.chain.specs.Restore.{Description}
 use Rattle.chain.specs.Chained.{Restorer, Describer, Answers, PromisedChain}

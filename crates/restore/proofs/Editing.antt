@@ -8,19 +8,20 @@ use lib.Dec.{ltb}
 use lib.ListN.{length, getD, take, drop, length-append, length-drop, drop-of-length-le}
 use lib.Seq.{paste, take-paste, length-paste, length-take-le, take-add, take-take, drop-at, slice, length-slice}
 use borrow.Author.Tests.{ltb-false}
+use Rattle.ump.specs.Word.{pairAt}
 use Rattle.ump.specs.Edits.{Patch, replaced}
-use Rattle.store.specs.Store.{isEdit, isData, dataIn, patchesIn, pairAt}
-use Rattle.chain.specs.Restore.{outside}
+use Rattle.store.specs.Store.{isEdit, isData, dataIn, patchesIn}
 use Rattle.store.specs.Places.{nextAt, recordsFrom}
-use Rattle.restore.specs.Laying.{Copied, Ran, Filling}
+use Rattle.store.proofs.Parts.{patches-edit, patches-stop}
+use Rattle.chain.specs.Restore.{outside}
 use Rattle.chain.specs.declared.edits.Reached.{Reached}
+use Rattle.chain.proofs.Outside.{or-false}
+use Rattle.chain.proofs.Replay.{replay, replaced-is}
+use Rattle.restore.specs.Laying.{Copied, Ran, Filling}
 use Rattle.restore.specs.declared.restoring.Run.{Run}
 use Rattle.restore.specs.declared.restoring.Run.the-variants as run
 use Rattle.restore.specs.declared.restoring.Filled.{Filled}
 use Rattle.restore.specs.declared.restoring.Filled.the-variants as filled
-use Rattle.store.proofs.Parts.{patches-edit, patches-stop}
-use Rattle.chain.proofs.Outside.{or-false}
-use Rattle.chain.proofs.Replay.{replay, replaced-is}
 
 -- ---- by cases
 

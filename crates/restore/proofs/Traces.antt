@@ -30,7 +30,7 @@ use Rattle.ump.proofs.Origins.{octet-front}
 use Rattle.store.specs.Store.{Dump, delta, held}
 use Rattle.store.proofs.Forms.{All, Formed}
 use Rattle.chain.specs.Walk.{comes}
-use Rattle.chain.specs.Restore.{Payload, restored, unlimited, sizeOf, laidOut}
+use Rattle.chain.specs.Restore.{Payload, restored, unlimited, payloadSize, laidOut}
 use Rattle.chain.specs.Origin.{Provenance, wholeByte, deltaByte, nowhere, sourceBy, sourceIn, sourceOf, provenByte, OnWalk, OfDump, of-header, of-payload, of-filler, of-zeroed, restoredOctet, originAt, TracedDump}
 use Rattle.chain.proofs.Walks.{held-all}
 use Rattle.chain.proofs.Making.{Fitting, Made, of-whole, of-delta, made, apart}
@@ -58,7 +58,7 @@ module _ (ds : List Dump) (formed : All Formed ds) where
       f base j = sourceOf ds left base j
 
       size : ℕ → ℕ
-      size base = sizeOf (restored unlimited ds left base)
+      size base = payloadSize (restored unlimited ds left base)
 
       go : ((b : ℕ) (q : Payload) → restored unlimited ds left b ≡ gives q → (j : ℕ) → getD (q .bytes) j 0 ≡ provenByte ds (f b j))
           → Made unlimited ds left n p → getD (p .bytes) i 0 ≡ provenByte ds (sourceIn size f (held ds n) i)
@@ -168,7 +168,7 @@ module _ (ds : List Dump) (formed : All Formed ds) where
       f base j = sourceOf ds left base j
 
       size : ℕ → ℕ
-      size base = sizeOf (restored unlimited ds left base)
+      size base = payloadSize (restored unlimited ds left base)
 
       go : ((b : ℕ) (q : Payload) → restored unlimited ds left b ≡ gives q → (j : ℕ) → j < length (q .bytes) → OnWalk ds b (f b j))
           → Made unlimited ds left n p → OnWalk ds n (sourceIn size f (held ds n) i)

@@ -7,7 +7,8 @@ use native.Mathlib.Omega.{arith}
 use lib.Dec.{eqb}
 use lib.ListN.{length, getD}
 use borrow.Author.Tests.{eqb-true}
-use Rattle.store.specs.Store.{isWhole, isDump, Record, Dump, whole, delta, dumpNumber, dumpOf, dumpsIn, pairAt}
+use Rattle.ump.specs.Word.{pairAt}
+use Rattle.store.specs.Store.{isWhole, isDump, Record, Dump, whole, delta, dumpNumber, dumpOf, dumpsIn}
 use Rattle.store.specs.Places.{recordAt, nextAt, recordsFrom, dumpsFrom, dumpAt}
 use Rattle.store.proofs.Records.{not-both, data-low, records-end, records-step, body-pair}
 

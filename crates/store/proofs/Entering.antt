@@ -8,8 +8,9 @@ use lib.Dec.{eqb}
 use lib.ListN.{length, getD, take, set, replicate, length-set, length-replicate}
 use lib.Seq.{length-take-le, take-suc-set, getD-take, getD-set-same, getD-set-other, append-snoc}
 use borrow.Author.Tests.{eqb-true, eqb-false, eq-eqb, ne-eqb}
+use Rattle.ump.specs.Word.{pairAt}
 use Rattle.ump.specs.Edits.{elem}
-use Rattle.store.specs.Store.{isDump, Dump, dumpsOf, numbersOf, twice, pairAt}
+use Rattle.store.specs.Store.{isDump, Dump, dumpsOf, numbersOf, twice}
 use Rattle.store.specs.Places.{nextAt, dumpsFrom, dumpAt, Begins, Noted, flagged, Flags, Entering}
 use Rattle.store.specs.Meaning.{Enters, Passed}
 use Rattle.store.specs.declared.numbers.Entered.the-variants as entered

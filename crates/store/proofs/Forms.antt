@@ -8,11 +8,11 @@ use native.Mathlib.Omega.{arith}
 use lib.Dec.{eqb, leb}
 use lib.ListN.{length, getD, length-append, length-take}
 use borrow.Author.Tests.{ltb-true, leb-true, eqb-true}
-use Rattle.ump.specs.Word.{Below}
+use Rattle.ump.specs.Word.{Below, pairAt}
 use Rattle.ump.specs.Edits.{Patch, patchAt, total, allBytes}
 use Rattle.ump.proofs.Words.{below-append, below-take, below-getD}
 use Rattle.ump.proofs.Counting.{total-front}
-use Rattle.store.specs.Store.{isWhole, isDelta, isEdit, isData, bodySize, Record, recordsAfter, recordsOf, pairAt, followsBy, allowedBy, follows, allowed, fits, wellFormed, Dump, whole, delta, dataIn, patchesIn, dumpOf, dumpsIn, dumpsOf}
+use Rattle.store.specs.Store.{isWhole, isDelta, isEdit, isData, bodySize, Record, recordsAfter, recordsOf, followsBy, allowedBy, follows, allowed, fits, wellFormed, Dump, whole, delta, dataIn, patchesIn, dumpOf, dumpsIn, dumpsOf}
 use Rattle.store.specs.Places.{Ordered}
 use Rattle.store.specs.declared.format.Follow.{Follow}
 use Rattle.store.proofs.Records.{and-true, data-other}

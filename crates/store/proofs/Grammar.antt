@@ -8,7 +8,8 @@ use lib.Dec.{ltb, leb}
 use lib.ListN.{length, getD, take, drop, length-drop}
 use lib.Seq.{length-take-le}
 use borrow.Author.Tests.{eq-eqb, ne-eqb, eqb-true}
-use Rattle.store.specs.Store.{isWhole, isDelta, isEdit, isData, bodySize, followsBy, allowedBy, follows, allowed, fits, wellFormed, pairAt}
+use Rattle.ump.specs.Word.{pairAt}
+use Rattle.store.specs.Store.{isWhole, isDelta, isEdit, isData, bodySize, followsBy, allowedBy, follows, allowed, fits, wellFormed}
 use Rattle.store.specs.Places.{recordAt, nextAt, recordsFrom}
 use Rattle.store.specs.declared.format.Follow.{Follow}
 use Rattle.store.proofs.Records.{data-other, records-end, records-step, body-byte, body-pair}

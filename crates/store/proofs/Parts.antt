@@ -7,7 +7,8 @@ use native.Mathlib.Omega.{arith}
 use lib.Dec.{ltb}
 use lib.ListN.{length, getD, List·getD-eq-default}
 use borrow.Author.Tests.{ltb-true, ltb-false, eqb-true}
-use Rattle.store.specs.Store.{isEdit, isData, dataIn, patchesIn, pairAt}
+use Rattle.ump.specs.Word.{pairAt}
+use Rattle.store.specs.Store.{isEdit, isData, dataIn, patchesIn}
 use Rattle.store.specs.Places.{recordAt, nextAt, recordsFrom}
 use Rattle.store.proofs.Records.{not-both, data-low, data-other, records-end, records-step, body-pair}
 

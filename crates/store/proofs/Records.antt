@@ -8,7 +8,8 @@ use lib.Dec.{eqb, leb}
 use lib.ListN.{length, getD, take, drop, length-drop, drop-of-length-le}
 use lib.Seq.{take-all, drop-cons, drop-drop, getD-take, getD-drop}
 use borrow.Author.Tests.{eq-eqb, ne-eqb, le-leb, lt-leb, leb-true}
-use Rattle.store.specs.Store.{isWhole, isDelta, isEdit, isData, bodySize, Record, recordsAfter, recordsOf, pairAt}
+use Rattle.ump.specs.Word.{pairAt}
+use Rattle.store.specs.Store.{isWhole, isDelta, isEdit, isData, bodySize, Record, recordsAfter, recordsOf}
 use Rattle.store.specs.Places.{recordAt, nextAt}
 
 -- no test both holds and fails

@@ -9,7 +9,8 @@ use lib.ListN.{length, getD, drop, drop-of-length-le}
 use lib.Seq.{drop-cons}
 use lib.Dec.{eqb, ltb}
 use borrow.Author.Tests.{eq-eqb, ne-eqb, eqb-true, eqb-false, lt-ltb, ltb-true}
-use Rattle.store.specs.Store.{Dump, dumpNumber, held, dumpsOf, pairAt}
+use Rattle.ump.specs.Word.{pairAt}
+use Rattle.store.specs.Store.{Dump, dumpNumber, held, dumpsOf}
 use Rattle.store.specs.Places.{dumpAt, Begins, Noted}
 use Rattle.store.proofs.Records.{and-true}
 use Rattle.store.proofs.Dumps.{number-here}

@@ -7,6 +7,7 @@ use Prim.Native.Nat.{ℕ, zero, suc, _+_, _-_, _*_}
 use lib.Dec.{eqb, ltb, leb}
 use lib.ListN.{length, getD, take}
 use Rattle.refusal.specs.Answer.{Answer, gives, Verdict, _▷_, guard}
+use Rattle.ump.specs.Word.{pairAt}
 use Rattle.ump.specs.Edits.{Patch, elem}
 use Rattle.store.specs.declared.format.Follow.{Follow}
 
@@ -48,10 +49,6 @@ recordsAfter (suc skip) (byte ∷ bytes) = recordsAfter skip bytes
 
 abbrev pub recordsOf : List ℕ → List Record
 recordsOf store = recordsAfter 0 store
-
--- a number of two bytes, highest byte first
-abbrev pub pairAt : List ℕ → ℕ → ℕ
-pairAt bytes i = getD bytes i 0 * 256 + getD bytes (i + 1) 0
 
 -- ---- Format: (01 data* | 02 (03 data*)*)*, where 11 stands for 01 and 12 for 02 as well
 

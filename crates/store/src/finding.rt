@@ -4,7 +4,7 @@ ghost use mathlib.Core.Path.{_≡_};
 ghost use Prim.Native.Nat.{_+_};
 ghost use lib.Dec.{eqb, ltb};
 ghost use lib.ListN.{length};
-ghost use Rattle.store.specs.Store.{pairAt};
+ghost use Rattle.ump.specs.Word.{pairAt};
 ghost use Rattle.store.specs.Meaning.{Finds};
 use crate::record::number_at;
 

@@ -2,7 +2,8 @@
 ghost use mathlib.Core.Path.{_≡_};
 ghost use Prim.Native.Nat.{_<_};
 ghost use lib.ListN.{getD};
-ghost use Rattle.store.specs.Store.{isWhole, isDelta, isWanted, isDump, isEdit, isData, bodySize, pairAt};
+ghost use Rattle.ump.specs.Word.{pairAt};
+ghost use Rattle.store.specs.Store.{isWhole, isDelta, isWanted, isDump, isEdit, isData, bodySize};
 ghost use Rattle.store.specs.Places.{Behind, HasBody};
 
 // The byte at a place; zero past the end.

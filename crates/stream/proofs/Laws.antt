@@ -11,11 +11,11 @@ use lib.ListN.{length, getD, drop, length-drop, drop-of-length-le}
 use lib.Pow.{pow-add}
 use lib.Seq.{getD-drop, drop-cons, drop-drop}
 use borrow.Author.Tests.{le-ltb, lt-ltb}
-use Rattle.ump.specs.Word.{Below}
+use Rattle.ump.specs.Word.{Below, pairAt}
 use Rattle.ump.proofs.First.{Side, under, over, side}
 use Rattle.ump.proofs.Words.{below-drop, below-getD, below-at}
 use Rattle.ump.proofs.Without.{length-without, below-without}
-use Rattle.stream.specs.Steps.{onward, octetsOf, pairAt, fourAt, Took, TookSix, Filled}
+use Rattle.stream.specs.Steps.{onward, octetsOf, fourAt, Took, TookSix, Filled}
 
 -- ---- bytes that are taken
 

@@ -6,6 +6,7 @@ use mathlib.Core.List.{List, [], _∷_, _++_}
 use Prim.Native.Nat.{ℕ, zero, suc, _+_, _-_, _*_, _/_, _%_, _^_, _<_}
 use lib.Dec.{ltb}
 use lib.ListN.{length, getD, drop}
+use Rattle.ump.specs.Word.{pairAt}
 use Rattle.ump.specs.Packet.{sysex7}
 use Rattle.ump.specs.Packing.{packetsFor, pack}
 use Rattle.ump.specs.Stream.{withoutRealTime}
@@ -24,10 +25,7 @@ abbrev pub octetsOf : ℕ → List ℕ → ℕ
 octetsOf zero bytes = 0
 octetsOf (suc n) bytes = octetsOf n bytes * 256 + getD bytes n 0
 
--- two bytes that stand at a position, and four, as octets
-abbrev pub pairAt : List ℕ → ℕ → ℕ
-pairAt inner at = getD inner at 0 * 256 + getD inner (at + 1) 0
-
+-- four bytes that stand at a position, as octets (two: pairAt)
 abbrev pub fourAt : List ℕ → ℕ → ℕ
 fourAt inner at = pairAt inner at * 65536 + pairAt inner (at + 2)
 

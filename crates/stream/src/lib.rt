@@ -4,11 +4,12 @@ ghost use Prim.Native.Nat.{_+_, _-_, _*_, _≤_, _<_, min};
 ghost use lib.ListN.{length, set};
 ghost use Rattle.refusal.specs.Answer.{refused};
 ghost use Rattle.refusal.specs.Number.{numberOf};
+ghost use Rattle.ump.specs.Word.{pairAt};
 ghost use Rattle.ump.specs.Packet.{sysex7};
 ghost use Rattle.ump.specs.Packing.{packetsFor};
 ghost use Rattle.ump.specs.Stream.{badFrame, badByte, withoutRealTime, firstBad, toSysex7};
 ghost use Rattle.stream.specs.Meaning.{writtenMeaning};
-ghost use Rattle.stream.specs.Steps.{onward, countBelow, pairAt, fourAt, headWord, Took, TookSix, Filled, Sized, withPackets};
+ghost use Rattle.stream.specs.Steps.{onward, countBelow, fourAt, headWord, Took, TookSix, Filled, Sized, withPackets};
 use refusal::Fault;
 use refusal::Refusal;
 

@@ -11,16 +11,16 @@ use borrow.Author.Tests.{lt-ltb, le-ltb}
 use Rattle.ump.specs.Packet.{Shape, groupAt, idAt}
 use Rattle.ump.specs.Packing.{wordsFor, pack}
 use Rattle.ump.specs.Splice.{stored, rewritten}
-use Rattle.ump.specs.Holds.{Behind}
+use Rattle.ump.specs.Holds.{BehindMessage}
 use Rattle.ump.proofs.First.{Side, under, over, side}
 use Rattle.ump.proofs.Packing.{length-pack}
 use Rattle.ump.proofs.Splicing.{length-id}
 
-pub behind-none : (words : List ℕ) (len : ℕ) → Behind words len words len
+pub behind-none : (words : List ℕ) (len : ℕ) → BehindMessage words len words len
 behind-none words len = record { word = λ i h. rw (le-ltb i len h) }
 
 -- one change after the other
-pub behind-both : {words mid left : List ℕ} {a b r new : ℕ} → Behind words a mid b → b ≤ r → Behind mid r left new → Behind words (max a r) left new
+pub behind-both : {words mid left : List ℕ} {a b r new : ℕ} → BehindMessage words a mid b → b ≤ r → BehindMessage mid r left new → BehindMessage words (max a r) left new
 behind-both {words} {mid} {left} {a} {b} {r} {new} h k t = record { word = λ i l. t .word i l ∙ go i (side i r) (side i a) }
   where
     go : (i : ℕ) → Side i r → Side i a → cond (ltb i r) 0 (getD mid i 0) ≡ cond (ltb i (max a r)) 0 (getD words i 0)
@@ -53,7 +53,7 @@ stored-behind words len message i h =
         ∙ ap (λ (j : ℕ). getD words j 0) g)
 
 -- a message rewritten with other bytes
-pub rewritten-behind : (shape : Shape) (words : List ℕ) (len : ℕ) (new : List ℕ) → Behind words len (rewritten shape words len new) (wordsFor shape (length new))
+pub rewritten-behind : (shape : Shape) (words : List ℕ) (len : ℕ) (new : List ℕ) → BehindMessage words len (rewritten shape words len new) (wordsFor shape (length new))
 unfolding rewritten
 rewritten-behind shape words len new =
     record {

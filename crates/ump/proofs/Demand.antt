@@ -13,9 +13,9 @@ use Rattle.ump.specs.Limits.{mostBytes, Dense}
 use Rattle.ump.specs.Check.{check, payloadOf}
 use Rattle.ump.specs.Splice.{rewritten}
 use Rattle.ump.specs.Edits.{Patch, patchAt, editAt, replaced, Order}
-use Rattle.ump.specs.Holds.{Holds, Fewest, Behind}
+use Rattle.ump.specs.Holds.{Holds, Fewest, BehindMessage}
 use Rattle.ump.specs.Worker.{Calls, Held, End, finished, stopped, Works, rests, Finishes, Fits, bytesOf, Each, Placed, reached}
-use Rattle.ump.specs.Meets.{View, Meets, Answers, mostOnTheWay, Begins}
+use Rattle.ump.specs.Meets.{View, Meets, HasOutcomes, mostOnTheWay, WorkerBegins}
 use Rattle.ump.specs.Partly.{editNow}
 use Rattle.ump.proofs.Limits.{dense-fits}
 use Rattle.ump.proofs.Checks.{passes-valid}
@@ -60,7 +60,7 @@ rewritten-is-fewest shape words len new ok small room =
 module _ {Lent Record : Type 0} {shape : Shape} (dense : Dense shape) {view : View Lent Record} {calls : Calls Lent Record} {patches : List Patch} {held : Held Lent Record}
     (fits : Fits shape (view .wordsOf (held .lent)) (held .length) patches)
     (meets : Meets shape (mostOnTheWay shape (view .wordsOf (held .lent)) (held .length) patches) view calls)
-    (begins : Begins shape view patches held) where
+    (begins : WorkerBegins shape view patches held) where
   abbrev words : List ℕ
   words = view .wordsOf (held .lent)
 
@@ -126,7 +126,7 @@ module _ {Lent Record : Type 0} {shape : Shape} (dense : Dense shape) {view : Vi
   result-beside (i ∷ order) o {left} {len} w = ends i order o (finished left len) w .beside
 
   -- 3. In each order, of all the edits or of some, there is a worker that finishes, if the calls have an outcome where the definitions give one.
-  pub finishes : Answers shape (mostOnTheWay shape words (held .length) patches) view calls → (order : List ℕ) → Order (length patches) order
+  pub finishes : HasOutcomes shape (mostOnTheWay shape words (held .length) patches) view calls → (order : List ℕ) → Order (length patches) order
       → Finishes calls (bytesOf patches) held order
   finishes answers order o =
       goes shape view calls group id payload (length words) patches (fits .apart) (fits .bytes) (fits .room) small meets answers order [] held (at-first order o)
@@ -137,8 +137,8 @@ module _ {Lent Record : Type 0} {shape : Shape} (dense : Dense shape) {view : Vi
   places order o {end} w =
       placed shape view calls group id payload (length words) patches (fits .apart) (fits .bytes) (fits .room) small meets order [] held end (at-first order o) w
 
-  -- 5. Behind the message each word is zero where one stood on the way, else it is as it was.
+  -- 5. BehindMessage the message each word is zero where one stood on the way, else it is as it was.
   pub words-behind : (order : List ℕ) → Order (length patches) order → {left : Lent} {size : ℕ} → (w : Works calls (bytesOf patches) held order (finished left size))
-      → Behind words (reached w) (view .wordsOf left) size
+      → BehindMessage words (reached w) (view .wordsOf left) size
   words-behind order o {left} {size} w =
       behind shape view calls group id payload (length words) patches (fits .apart) (fits .bytes) (fits .room) small meets order [] held (finished left size) (at-first order o) w

@@ -13,7 +13,7 @@ use Rattle.ump.specs.Splice.{Spliced, splice}
 use Rattle.ump.specs.Edits.{Edit, Patch, replaced}
 use Rattle.ump.specs.Worker.{Calls, Held, Works, finished, Fits, bytesOf, start, Each, reached}
 use Rattle.ump.specs.Demand.{Demand3}
-use Rattle.ump.specs.Meets.{movedEdit, View, plain, Meets, Answers, mostOnTheWay, Begins, PlainMeets, PlainAnswers, defined}
+use Rattle.ump.specs.Meets.{movedEdit, View, plainView, Meets, HasOutcomes, mostOnTheWay, WorkerBegins, PlainMeets, PlainAnswers, defined}
 use Rattle.ump.specs.Limits.{Dense}
 use Rattle.ump.proofs.Limits.{dense7}
 use Rattle.ump.proofs.Demand.{same-message, no-refusal, result, finishes, places, words-behind}
@@ -22,8 +22,8 @@ use Rattle.ump.proofs.Origins.{traced}
 pub demand3 : {Lent Record : Type 0} {shape : Shape} → Dense shape → {view : View Lent Record} {calls : Calls Lent Record} {patches : List Patch} {held : Held Lent Record}
     → Fits shape (view .wordsOf (held .lent)) (held .length) patches
     → Meets shape (mostOnTheWay shape (view .wordsOf (held .lent)) (held .length) patches) view calls
-    → Answers shape (mostOnTheWay shape (view .wordsOf (held .lent)) (held .length) patches) view calls
-    → Begins shape view patches held → Demand3 shape (view .wordsOf) (view .editOf) calls patches held
+    → HasOutcomes shape (mostOnTheWay shape (view .wordsOf (held .lent)) (held .length) patches) view calls
+    → WorkerBegins shape view patches held → Demand3 shape (view .wordsOf) (view .editOf) calls patches held
 demand3 {shape = shape} dense {view} {patches = patches} {held = held} fits meets answers begins =
     record {
       no-refusal = no-refusal dense fits meets begins;
@@ -55,9 +55,9 @@ two-workers {patches = patches} one other groups ids payloads {order} {order′}
 pub plain-demand3 : {shape : Shape} → Dense shape → {calls : Calls (List ℕ) Edit} → PlainMeets shape calls → PlainAnswers shape calls
     → {words : List ℕ} {len : ℕ} {patches : List Patch} → Fits shape words len patches
     → Demand3 shape (λ words. words) (λ edit. edit) calls patches (start words len patches)
-plain-demand3 {shape} dense {calls} meets answers fits = demand3 dense {view = plain} fits met answered (record { beside = tt; edits = λ k h. refl; cut = λ k h. tt })
+plain-demand3 {shape} dense {calls} meets answers fits = demand3 dense {view = plainView} fits met answered (record { beside = tt; edits = λ k h. refl; cut = λ k h. tt })
   where
-    met : {most : ℕ} → Meets shape most plain calls
+    met : {most : ℕ} → Meets shape most plainView calls
     met =
         record {
           splices = λ b c r e call. record {
@@ -68,7 +68,7 @@ plain-demand3 {shape} dense {calls} meets answers fits = demand3 dense {view = p
           moves = λ c d i j m n e call. record { moved = _; answer-is = meets .moves e call; edit-is = refl; cut = tt };
         }
 
-    answered : {most : ℕ} → Answers shape most plain calls
+    answered : {most : ℕ} → HasOutcomes shape most plainView calls
     answered =
         record {
           can-splice = λ b c r e. record { left = _; call = answers .can-splice (r .small) e };

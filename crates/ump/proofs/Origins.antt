@@ -18,7 +18,7 @@ use Rattle.ump.specs.Check.{check, payloadOf}
 use Rattle.ump.specs.Splice.{spliced, rewritten, Spliced, splice, repack}
 use Rattle.ump.specs.Edits.{Patch, patchAt, editsFor, endBefore, Apart, replaced, total}
 use Rattle.ump.specs.Origin.{headerOctets, Source, dumpByte, editByte, byteFrom, Origin, headerOctet, carried, filler, zeroed, untouched, originOf, originIn, octetFrom, sameSource, isFrom, isHeader, isFiller, howMany, inRange, Within, Traced}
-use Rattle.ump.specs.Holds.{Fewest, Behind}
+use Rattle.ump.specs.Holds.{Fewest, BehindMessage}
 use Rattle.ump.proofs.Splicing.{group-fits, length-id, below-id, below-payload}
 use Rattle.ump.proofs.Words.{below-append, below-take, below-drop, getD-octets, zero-octet}
 use Rattle.ump.proofs.First.{Side, under, over, side}
@@ -99,7 +99,7 @@ octet-in m q =
     let e : 4 * (q / 4) + q % 4 ≡ q = omega arith in
     ap (λ (x : ℕ). getD (octets m) x 0) (sym e) ∙ getD-octets m (q / 4) (q % 4) (omega arith)
 
-octet-behind : (words : List ℕ) (most : ℕ) (left : List ℕ) (new : ℕ) → Behind words most left new → (q : ℕ) → 4 * new ≤ q
+octet-behind : (words : List ℕ) (most : ℕ) (left : List ℕ) (new : ℕ) → BehindMessage words most left new → (q : ℕ) → 4 * new ≤ q
     → getD (octets left) q 0 ≡ cond (ltb q (4 * most)) 0 (getD (octets words) q 0)
 octet-behind words most left new behind q h = octet-in left q ∙ ap (λ (x : ℕ). octet x (q % 4)) (behind .word (q / 4) (omega arith)) ∙ go (side (q / 4) most)
   where
@@ -311,7 +311,7 @@ below-replaced m bytes patches b small =
 
 module _ (shape : Shape) (words : List ℕ) (len : ℕ) (patches : List Patch) (most : ℕ) (left : List ℕ) (new : ℕ)
     (fewest : Fewest shape (groupAt shape words 0) (idAt shape words 0) (replaced (payloadOf shape words len) patches) (length words) left new)
-    (apart : Apart patches (length (payloadOf shape words len))) (behind : Behind words most left new) where
+    (apart : Apart patches (length (payloadOf shape words len))) (behind : BehindMessage words most left new) where
   abbrev old : List ℕ
   old = payloadOf shape words len
 

@@ -9,7 +9,7 @@ use lib.ListN.{length, take, drop, length-append, length-take, length-drop, leng
 use lib.Seq.{take-all, take-nil, drop-nil, drop-drop, drop-cons, drop-length, take-take, take-append-le, take-append-add, drop-append-le, drop-append-add, length-take-le}
 use Rattle.ump.specs.Packet.{Shape, firstWord, sizeAt, packet, payloadAt, joined, payload, byteAt}
 use Rattle.ump.specs.Check.{payloadOf}
-use Rattle.ump.specs.Reader.{Cursor, Step, byte, ended, Read, row, walk, places, unread, bytesRemaining, readFirst, nth, startOf, bytesAt, stepOf}
+use Rattle.ump.specs.Reader.{Cursor, Step, byte, ended, Read, row, walk, places, unread, bytesRemaining, readFirst, nth, startOf, bytesAt, firstStep}
 use Rattle.ump.proofs.First.{Side, under, over, side}
 use Rattle.ump.proofs.Fronts.{drop-take}
 use Rattle.ump.proofs.Depends.{payload-same}
@@ -168,13 +168,13 @@ module _ (shape : Shape) (words : List ℕ) where
 -- ---- the bytes that a cursor has yet to read
 
 -- a call answers byte n of them, and behind the last the end
-step-at : (shape : Shape) (words : List ℕ) (k n : ℕ) (l : List (ℕ × ℕ)) → readFirst shape words k (drop n l) .step ≡ stepOf (drop n (bytesAt shape words l))
+step-at : (shape : Shape) (words : List ℕ) (k n : ℕ) (l : List (ℕ × ℕ)) → readFirst shape words k (drop n l) .step ≡ firstStep (drop n (bytesAt shape words l))
 step-at shape words k zero [] = refl
 step-at shape words k zero (x ∷ l) = refl
 step-at shape words k (suc n) [] = refl
 step-at shape words k (suc n) (x ∷ l) = step-at shape words k n l
 
-pub nth-step : (shape : Shape) (words : List ℕ) (c : Cursor) (n : ℕ) → nth shape words c n .step ≡ stepOf (drop n (bytesAt shape words (unread shape words c)))
+pub nth-step : (shape : Shape) (words : List ℕ) (c : Cursor) (n : ℕ) → nth shape words c n .step ≡ firstStep (drop n (bytesAt shape words (unread shape words c)))
 unfolding nth
 nth-step shape words c n = step-at shape words (c .remaining - (n + 1)) n (unread shape words c)
 
@@ -228,8 +228,8 @@ module _ (shape : Shape) (words : List ℕ) where
       in
       rw (take-all (length content) (places shape words 0 0) (omega arith)) e
 
-  pub reads-payload : (n : ℕ) → nth shape words (startOf (length content)) n .step ≡ stepOf (drop n content)
-  reads-payload n = nth-step shape words (startOf (length content)) n ∙ ap (λ (l : List ℕ). stepOf (drop n l)) unread-payload
+  pub reads-payload : (n : ℕ) → nth shape words (startOf (length content)) n .step ≡ firstStep (drop n content)
+  reads-payload n = nth-step shape words (startOf (length content)) n ∙ ap (λ (l : List ℕ). firstStep (drop n l)) unread-payload
 
 -- and so is the message in the first len words (all of them lent, as in any valid one), whatever stands behind it
 module _ (shape : Shape) (words : List ℕ) (len : ℕ) (inside : len ≤ length words) where
@@ -239,7 +239,7 @@ module _ (shape : Shape) (words : List ℕ) (len : ℕ) (inside : len ≤ length
   pub unread-message : bytesAt shape (take len words) (unread shape (take len words) (startOf (length (payloadOf shape words len)))) ≡ payloadOf shape words len
   unread-message = rw payload-take at (unread-payload shape (take len words))
 
-  pub reads-message : (n : ℕ) → nth shape (take len words) (startOf (length (payloadOf shape words len))) n .step ≡ stepOf (drop n (payloadOf shape words len))
+  pub reads-message : (n : ℕ) → nth shape (take len words) (startOf (length (payloadOf shape words len))) n .step ≡ firstStep (drop n (payloadOf shape words len))
   reads-message n = rw payload-take at (reads-payload shape (take len words) n)
 
 -- ---- a turn of a loop over the packets, at byte b of packet p, where k bytes stand

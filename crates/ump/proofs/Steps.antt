@@ -17,9 +17,9 @@ use Rattle.ump.specs.Limits.{mostBytes}
 use Rattle.ump.specs.Check.{payloadOf}
 use Rattle.ump.specs.Splice.{spliced, Spliced, splice}
 use Rattle.ump.specs.Edits.{Edit, Patch, patchAt, Apart, allBytes, elem, movedPast, Order}
-use Rattle.ump.specs.Holds.{Holds, Fewest, Behind, Packed}
+use Rattle.ump.specs.Holds.{Holds, Fewest, BehindMessage, Packed}
 use Rattle.ump.specs.Worker.{Calls, Held, End, finished, stopped, Works, rests, goes-on, splice-refused, move-refused, Finishes, bytesOf, AllInPlace, Placed, reached}
-use Rattle.ump.specs.Meets.{movedEdit, View, Ready, Meets, CanSplice, CanMove, Answers}
+use Rattle.ump.specs.Meets.{movedEdit, View, Ready, Meets, CanSplice, CanMove, HasOutcomes}
 use Rattle.ump.specs.Partly.{moved, mixed, editNow}
 use Rattle.ump.proofs.First.{is-false}
 use Rattle.ump.proofs.Sizes.{words-mono}
@@ -243,7 +243,7 @@ module _ {Lent Record : Type 0} (shape : Shape) (view : View Lent Record) (calls
   -- after one splice: zeros where its old message stood
   left-behind : (done : List ℕ) (i : ℕ) (order : List ℕ) (held : Held Lent Record) → At done (i ∷ order) held → (change : Spliced) (left : Lent)
       → calls .Splices (held .lent) (held .length) (held .edit i) (patchAt patches i .bytes) (gives change) left
-      → Behind (view .wordsOf (held .lent)) (held .length) (view .wordsOf left) (change .length)
+      → BehindMessage (view .wordsOf (held .lent)) (held .length) (view .wordsOf left) (change .length)
   left-behind done i order held at change left c =
       let o = meets .splices (at .beside) (cut-i done i order held at) (ready done i order held at) (accepted done i order held at) c in
       let k = known shape (view .wordsOf (held .lent)) (held .length) _ _ (patchAt patches i .bytes) _ _ (accepted done i order held at) in
@@ -251,15 +251,15 @@ module _ {Lent Record : Type 0} (shape : Shape) (view : View Lent Record) (calls
       rw (o .words-are, same, ← (k .left-is), ← (k .length-is)) (rewritten-behind shape (view .wordsOf (held .lent)) (held .length) _)
 
   pub behind : (order done : List ℕ) (held : Held Lent Record) (end : End Lent) → At done order held → (w : Works calls (bytesOf patches) held order end)
-      → Ends (λ left len. Behind (view .wordsOf (held .lent)) (reached w) (view .wordsOf left) len) end
+      → Ends (λ left len. BehindMessage (view .wordsOf (held .lent)) (reached w) (view .wordsOf left) len) end
   behind order done held end at rests = behind-none (view .wordsOf (held .lent)) (held .length)
   behind (i ∷ order) done held end at (goes-on {change = change} {left = left} {edit = edit} call m w) =
       further end (held .length) (left-behind done i order held at change left call) (least-reached w)
       (behind order (i ∷ done) _ end (next done i order held at left (change .length) edit (took done i order held at (gives change) left call) m) w)
     where
-      further : (end : End Lent) (a : ℕ) {b r : ℕ} → Behind (view .wordsOf (held .lent)) a (view .wordsOf left) b → b ≤ r
-          → Ends (λ last len. Behind (view .wordsOf left) r (view .wordsOf last) len) end
-          → Ends (λ last len. Behind (view .wordsOf (held .lent)) (max a r) (view .wordsOf last) len) end
+      further : (end : End Lent) (a : ℕ) {b r : ℕ} → BehindMessage (view .wordsOf (held .lent)) a (view .wordsOf left) b → b ≤ r
+          → Ends (λ last len. BehindMessage (view .wordsOf left) r (view .wordsOf last) len) end
+          → Ends (λ last len. BehindMessage (view .wordsOf (held .lent)) (max a r) (view .wordsOf last) len) end
       further (finished last len) a h k t = behind-both h k t
       further (stopped number place) a h k t = t
   behind (i ∷ order) done held end at (splice-refused call) = took done i order held at _ _ call
@@ -273,7 +273,7 @@ module _ {Lent Record : Type 0} (shape : Shape) (view : View Lent Record) (calls
       → Finishes calls (bytesOf patches) (record { lent = left; length = change .length; edit = edit }) order → Finishes calls (bytesOf patches) held (i ∷ order)
   on c m rest = record { left = rest .left; length = rest .length; works = goes-on c m (rest .works) }
 
-  module _ (answers : Answers shape (length payload + allBytes patches) view calls) where
+  module _ (answers : HasOutcomes shape (length payload + allBytes patches) view calls) where
     pub goes : (order done : List ℕ) (held : Held Lent Record) → At done order held → Finishes calls (bytesOf patches) held order
     goes [] done held at = record { left = held .lent; length = held .length; works = rests }
     goes (i ∷ order) done held at =

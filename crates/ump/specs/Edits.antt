@@ -59,11 +59,11 @@ pub record Patch : Type 0 where
   pub to : ℕ
   pub bytes : List ℕ
 
-abbrev pub none : Patch
-none = record { from = 0; to = 0; bytes = [] }
+abbrev pub noPatch : Patch
+noPatch = record { from = 0; to = 0; bytes = [] }
 
 abbrev pub patchAt : List Patch → ℕ → Patch
-patchAt patches i = getD patches i none
+patchAt patches i = getD patches i noPatch
 
 abbrev pub editAt : List Patch → ℕ → Edit
 editAt patches i =

@@ -72,6 +72,6 @@ abbrev pub bytesAt : Shape → List ℕ → List (ℕ × ℕ) → List ℕ
 bytesAt shape words at = map (λ place. byteAt shape words (place .0) (place .1)) at
 
 -- the first of some bytes, or the end
-abbrev pub stepOf : List ℕ → Step
-stepOf [] = ended
-stepOf (value ∷ more) = byte value
+abbrev pub firstStep : List ℕ → Step
+firstStep [] = ended
+firstStep (value ∷ more) = byte value

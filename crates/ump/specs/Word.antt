@@ -4,6 +4,7 @@ use mathlib.Core.Logic.{_⊎_}
 use mathlib.Core.List.{List, [], _∷_}
 use Prim.Native.Nat.{ℕ, _+_, _-_, _*_, _/_, _%_, _^_, _≤_, _<_}
 use lib.Dec.{leb}
+use lib.ListN.{getD}
 use Rattle.refusal.specs.Answer.{Answer, gives, _▷_, guard}
 
 -- ---- fields (01, module 1)
@@ -81,6 +82,10 @@ wordsOf (a ∷ []) = []
 wordsOf (a ∷ b ∷ []) = []
 wordsOf (a ∷ b ∷ c ∷ []) = []
 wordsOf (a ∷ b ∷ c ∷ d ∷ rest) = word a b c d ∷ wordsOf rest
+
+-- the number of two octets of a list, from index i on, the first the most significant
+abbrev pub pairAt : List ℕ → ℕ → ℕ
+pairAt bytes i = getD bytes i 0 * 256 + getD bytes (i + 1) 0
 
 -- each number of a list is below m
 abbrev pub Below : ℕ → List ℕ → Type 0

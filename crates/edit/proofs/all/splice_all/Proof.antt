@@ -4,7 +4,7 @@ use mathlib.Core.Path.{sym, ap, _∙_}
 use Rattle.ump.specs.Packet.{sysex8}
 use Rattle.message.specs.Meaning.{checkMeaning8}
 use Rattle.message.proofs.Checked.{taken, not-taken}
-use Rattle.edit.proofs.Whole.{all-refused}
+use Rattle.edit.proofs.AtOnceCases.{all-refused}
 use Rattle.edit.proofs.all.splice_all.Statement.{statement}
 use Rattle.edit.proofs.all.splice_all.Tie as tie
 

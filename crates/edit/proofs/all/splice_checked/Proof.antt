@@ -18,7 +18,7 @@ use Rattle.edit.specs.Growth.{Sound}
 use Rattle.edit.specs.Meaning.{sizeMeaning}
 use Rattle.edit.specs.Listed.{listed}
 use Rattle.edit.proofs.Laws.{growth-held}
-use Rattle.edit.proofs.Whole.{all-listed, all-room, can-replace, all-done}
+use Rattle.edit.proofs.AtOnceCases.{all-listed, all-room, can-replace, all-done}
 use Rattle.edit.proofs.all.splice_checked.Statement.{statement}
 use Rattle.edit.proofs.all.splice_checked.Tie as tie
 

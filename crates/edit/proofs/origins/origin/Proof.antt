@@ -2,10 +2,10 @@
 use borrow.Author.Needs.{needs}
 use mathlib.Core.Path.{sym, ap, _∙_}
 use Rattle.ump.specs.Packet.{sysex8}
+use Rattle.ump.proofs.Asking.{asked-refused}
 use Rattle.message.specs.Meaning.{checkMeaning8}
 use Rattle.message.proofs.Checked.{taken, not-taken}
-use Rattle.edit.proofs.Whole.{checks-refused}
-use Rattle.ump.proofs.Asking.{asked-refused}
+use Rattle.edit.proofs.AtOnceCases.{checks-refused}
 use Rattle.edit.proofs.origins.origin.Statement.{statement}
 use Rattle.edit.proofs.origins.origin.Tie as tie
 

@@ -14,7 +14,7 @@ use Rattle.splice.proofs.Messages.{inside, size-fits}
 use Rattle.edit.specs.Meaning.{sizeMeaning}
 use Rattle.edit.specs.Listed.{listed}
 use Rattle.edit.proofs.Lists.{list-passes}
-use Rattle.edit.proofs.Whole.{checks-listed, checks-room, checks-pass, new-sized}
+use Rattle.edit.proofs.AtOnceCases.{checks-listed, checks-room, checks-pass, new-sized}
 use Rattle.edit.proofs.Walking.{origin-behind, origin-message, origin-zeroed, origin-untouched}
 use Rattle.edit.proofs.origins.origin_checked.Statement.{statement}
 use Rattle.edit.proofs.origins.origin_checked.Tie as tie

@@ -4,8 +4,8 @@ use mathlib.Core.Bool.{Bool}
 use mathlib.Core.List.{List, [], _∷_}
 use Prim.Native.Nat.{ℕ}
 use lib.Dec.{lit<}
-use denote.Ref.{RefT}
 use Rattle.refusal.specs.Answer.{Answer, gives, refused, mapAnswer}
+use Rattle.refusal.specs.Tight.{lent}
 use Rattle.refusal.proofs.Laws.{never-refused}
 use Rattle.ump.specs.Packet.{sysex8}
 use Rattle.ump.specs.Edits.{Edit, Range, moveEdit}
@@ -27,9 +27,6 @@ use Rattle.edit.proofs.Worker.{struct, Moves, family}
 use Rattle.edit.proofs.Audit as audit
 
 -- ---- a call for each outcome that the definitions give
-
-abbrev lent : List ℕ → RefT (List ℕ)
-lent list = record { ptr = (0, 0); name = 0; now = list }
 
 answers : PlainAnswers sysex8 (family .calls)
 answers =

@@ -4,6 +4,7 @@ use mathlib.Core.Option.{Option, none, some}
 use mathlib.Core.List.{List, []}
 use Prim.Native.Nat.{ℕ}
 use Rattle.refusal.specs.Answer.{Answer, gives, refused, Verdict}
+use Rattle.refusal.specs.Tight.{lent}
 use Rattle.ump.proofs.Numbered.{Numbered, numbered, from-named}
 use Rattle.store.specs.Store.{check}
 use Rattle.store.proofs.Checks.{check-named}
@@ -20,7 +21,7 @@ use Rattle.reclaim.proofs.Reclaims as reclaims
 use Rattle.answers.specs.Answers.{leaving, numberAnswer, doneAnswer, dumpAnswer}
 use Rattle.latchbeacon.proofs.Worker.{numberRead, doneRead, family}
 use Rattle.latchbeacon.proofs.Demand as demand
-use Rattle.latchbeacon.proofs.Demand.{read-refused, number-read, done-read, read-leaving, lent}
+use Rattle.latchbeacon.proofs.Demand.{read-refused, number-read, done-read, read-leaving}
 use Rattle.latchbeacon.proofs.Restorer.{dumpRead, Restores, Describes, Checks, Marks, Collects}
 
 -- each answer is read back from its struct

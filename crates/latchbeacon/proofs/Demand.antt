@@ -4,9 +4,9 @@ use mathlib.Core.List.{List, [], _∷_}
 use Prim.Native.Nat.{ℕ, _<_}
 use native.Mathlib.Omega.{arith}
 use lib.Dec.{lit<}
-use denote.Ref.{RefT}
 use borrow.Author.Tests.{ne-eqb}
 use Rattle.refusal.specs.Answer.{Answer, gives, refused, Verdict, mapAnswer}
+use Rattle.refusal.specs.Tight.{lent}
 use Rattle.ump.specs.Packet.{sysex8}
 use Rattle.ump.specs.Splice.{Spliced, splice, repack}
 use Rattle.ump.specs.Edits.{Range, moveEdit, spliceAll}
@@ -61,9 +61,6 @@ read-leaving {A} {B} struct read {said} {answer} {left} outcome p a e =
     ap (λ (x : A). (x, left)) (sym a) ∙ ap (λ (o : B × List ℕ). (read (o .0), o .1)) p ∙ ap (λ (x : A). (x, outcome .1)) e
 
 -- ---- a call for each outcome that the definitions give
-
-abbrev pub lent : List ℕ → RefT (List ℕ)
-lent list = record { ptr = (0, 0); name = 0; now = list }
 
 answers : PlainAnswers sysex8 (family .calls)
 answers =

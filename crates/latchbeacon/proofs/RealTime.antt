@@ -2,13 +2,14 @@
 use mathlib.Core.Path.{refl, sym, ap}
 use mathlib.Core.List.{[]}
 use Rattle.refusal.specs.Answer.{gives}
+use Rattle.refusal.specs.Tight.{lent}
 use Rattle.ump.specs.Stream.{toSysex7}
 use Rattle.ump.specs.RealTime.{PassesOver, PromisedWriter}
 use Rattle.ump.proofs.Numbered.{stream-numbered}
 use Rattle.ump.proofs.RealTime as laws
 use Rattle.answers.specs.Answers.{leaving, numberAnswer}
 use Rattle.latchbeacon.proofs.Worker.{numberRead}
-use Rattle.latchbeacon.proofs.Demand.{number-read, read-leaving, lent}
+use Rattle.latchbeacon.proofs.Demand.{number-read, read-leaving}
 use Rattle.latchbeacon.proofs.Writer.{Writes}
 
 promised : PromisedWriter Writes

@@ -10,7 +10,7 @@ use Rattle.refusal.specs.Answer.{gives, pass}
 use Rattle.ump.specs.Word.{octet}
 use Rattle.ump.specs.Packet.{sysex8, firstWord, groupAt, statusAt, countAt, sizeAt, joined}
 use Rattle.ump.specs.Check.{check}
-use Rattle.ump.specs.Single.{Kind, Packet, blank, kindFor, unexpected, unexpectedEnd, end, packetAt}
+use Rattle.ump.specs.Single.{Kind, Packet, blank, kindFor, unexpected, unexpectedEnd, end, packetAt, singlePacket}
 use Rattle.ump.proofs.Sizes.{size-small}
 use Rattle.ump.proofs.Checks.{passes-valid}
 use Rattle.ump.proofs.Singles.{status-four}
@@ -73,11 +73,11 @@ status-of (suc (suc (suc zero))) count zeroed h = go (unexpected 3 count zeroed)
 status-of (suc (suc (suc (suc n)))) count zeroed h = absurd (omega arith)
 
 pub line-of : (words : List ℕ) (len : ℕ) → check sysex8 words len ≡ pass → (p : ℕ) → p < len / 4 → (kind : Kind) (group id size : ℕ)
-    → gives (record { kind = kind; group = group; id = id ∷ []; size = size }) ≡ gives (packetAt words p)
+    → gives (singlePacket kind group (id ∷ []) size) ≡ gives (packetAt words p)
     → line (4 * p) group (statusOf kind) size id ≡ packetLine words p
 unfolding packetLine
 line-of words len e p h kind group id size g =
-    let f : _≡_ {A = Packet} (record { kind = kind; group = group; id = id ∷ []; size = size }) (packetAt words p) = cc in
+    let f : _≡_ {A = Packet} (singlePacket kind group (id ∷ []) size) (packetAt words p) = cc in
     let k : kind ≡ packetAt words p .kind = ap (λ (x : Packet). x .kind) f in
     let a : group ≡ groupAt sysex8 words p = ap (λ (x : Packet). x .group) f in
     let i : id ≡ octet (firstWord sysex8 words p) 2 = ap (λ (x : Packet). getD (x .id) 0 0) f in

@@ -9,7 +9,7 @@ use Rattle.refusal.specs.Answer.{Verdict, gives, refused, pass, _▷_}
 use Rattle.refusal.proofs.Laws.{given-passes, refused-by}
 use Rattle.ump.specs.Word.{nibble}
 use Rattle.ump.specs.Packet.{Shape, sysex8, sysex7, countAt, groupAt, idAt}
-use Rattle.ump.specs.Check.{check, checked, payloadOf, Summary, Valid}
+use Rattle.ump.specs.Check.{check, checked, payloadOf, Summary, Valid, summary}
 use Rattle.ump.proofs.Sizes.{words-pos}
 use Rattle.ump.proofs.Checks.{passes-valid}
 use Rattle.message.specs.Scan.{Framed, Inside, Counted, Shaped, orNone, inOrder, sizeFound, no-id, one-id}
@@ -64,7 +64,7 @@ module _ (s : Shape) (ws : List ℕ) (len : ℕ) where
   checked-fault e = rw (← e)
 
   pub checked-size : {size : ℕ} → Taken s ws len size
-      → gives (record { group = groupAt s ws 0; id = idAt s ws 0; size = size; words = len }) ≡ checked s ws len
+      → gives (summary (groupAt s ws 0) (idAt s ws 0) size len) ≡ checked s ws len
   unfolding checked
   checked-size m = rw (m .passes, ← (m .sized))
 

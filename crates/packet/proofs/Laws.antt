@@ -15,7 +15,7 @@ use Rattle.refusal.proofs.Laws.{never-refused}
 use Rattle.ump.specs.Word.{octet, octets}
 use Rattle.ump.specs.Packet.{Shape, sysex8, sysex7, header, typeAt, groupAt, statusAt, countAt, idAt, sizeOf, sizeAt}
 use Rattle.ump.specs.Check.{badType, badCount}
-use Rattle.ump.specs.Single.{Kind, Packet, zeros, blank, unexpected, readPacket8, readPacket7, packetByte, setPacketGroup}
+use Rattle.ump.specs.Single.{Kind, Packet, zeros, blank, unexpected, readPacket8, readPacket7, packetByte, setPacketGroup, singlePacket}
 use Rattle.ump.proofs.Words.{word-octets}
 use Rattle.ump.proofs.Sizes.{size-small}
 use Rattle.packet.specs.Steps.{plain, counted, decide8, payloadByte, putGroup}
@@ -85,7 +85,7 @@ blank-words (a ∷ b ∷ c ∷ d ∷ ws) h f =
 -- a decision with the fields of the packet's first word
 abbrev pub packetFrom : Shape → List ℕ → Answer (Kind × ℕ) → Answer Packet
 packetFrom shape words (gives decision) =
-    gives (record { kind = decision .0; group = groupAt shape words 0; id = idAt shape words 0; size = decision .1 })
+    gives (singlePacket (decision .0) (groupAt shape words 0) (idAt shape words 0) (decision .1))
 packetFrom shape words (refused number place) = refused number place
 
 -- what both readers do: Short, Type, and then the decision

@@ -2,8 +2,8 @@
 use mathlib.Core.Path.{refl, sym, ap, _∙_}
 use mathlib.Core.List.{List, []}
 use Prim.Native.Nat.{ℕ}
-use denote.Ref.{RefT}
 use Rattle.refusal.specs.Answer.{Answer, Verdict}
+use Rattle.refusal.specs.Tight.{lent}
 use Rattle.store.proofs.Checks.{check-named}
 use Rattle.store.proofs.Unique.{checkedBack, checked-meant}
 use Rattle.restore.proofs.Calls.{Restores, Describes}
@@ -12,9 +12,6 @@ use Rattle.reclaim.specs.Reclaimed.{Reclaimed, PromisedStore}
 use Rattle.reclaim.proofs.Unique.{markedBack, marked-meant, mark-named, collectedBack, collected-meant, collect-named}
 use Rattle.reclaim.proofs.Calls.{Checks, Marks, Collects}
 use Rattle.reclaim.proofs.Reclaims as laws
-
-abbrev lent : List ℕ → RefT (List ℕ)
-lent list = record { ptr = (0, 0); name = 0; now = list }
 
 promised : PromisedStore Checks Restores Describes Marks Collects
 promised =

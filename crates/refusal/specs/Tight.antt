@@ -5,6 +5,7 @@ use mathlib.Core.Path.{_≡_}
 use mathlib.Core.List.{List}
 use Prim.Native.Nat.{ℕ}
 use contract.Lifetimes.{Lfts}
+use denote.Ref.{RefT}
 use denote.Triple.Clauses.{AtExit}
 use borrow.Fn.Kinds.{Out, PK, RK, Dens, resT, endedOf}
 use Rattle.refusal.specs.Answer.{Answer}
@@ -46,3 +47,7 @@ pub record Called {A : Type 0} (n : ℕ) (ps : List (PK n)) (r : RK n) (Promise 
   pub given : Given lifetimes arguments
   pub answer-is : read lifetimes said ≡ answer
   pub left : Left lifetimes exit
+
+-- a list that is lent, at some place of memory
+abbrev pub lent : List ℕ → RefT (List ℕ)
+lent list = record { ptr = (0, 0); name = 0; now = list }

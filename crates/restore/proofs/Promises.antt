@@ -2,8 +2,8 @@
 use mathlib.Core.Path.{refl, sym, ap, _∙_}
 use mathlib.Core.List.{List, []}
 use Prim.Native.Nat.{ℕ}
-use denote.Ref.{RefT}
 use Rattle.refusal.specs.Answer.{Answer}
+use Rattle.refusal.specs.Tight.{lent}
 use Rattle.chain.specs.Chained.{Chained, PromisedChain}
 use Rattle.chain.specs.Audit.{AuditedDump}
 use Rattle.chain.proofs.Named.{restore-named, describe-named}
@@ -14,9 +14,6 @@ use Rattle.restore.proofs.Unique.{restoredBack, restored-meant}
 use Rattle.restore.proofs.Calls.{Restores, Describes}
 use Rattle.restore.proofs.Chains as laws
 use Rattle.restore.proofs.Splices as splices
-
-abbrev lent : List ℕ → RefT (List ℕ)
-lent list = record { ptr = (0, 0); name = 0; now = list }
 
 pub promised : PromisedChain Restores Describes
 promised =

@@ -2,14 +2,11 @@
 use mathlib.Core.Path.{refl, sym}
 use mathlib.Core.List.{List, []}
 use Prim.Native.Nat.{ℕ}
-use denote.Ref.{RefT}
+use Rattle.refusal.specs.Tight.{lent}
 use Rattle.ump.specs.RealTime.{PassesOver, PromisedWriter}
 use Rattle.ump.proofs.RealTime as laws
 use Rattle.stream.specs.declared.Written.the-variants.{Words}
 use Rattle.stream.proofs.Writer.{Writes}
-
-abbrev lent : List ℕ → RefT (List ℕ)
-lent list = record { ptr = (0, 0); name = 0; now = list }
 
 promised : PromisedWriter Writes
 promised =

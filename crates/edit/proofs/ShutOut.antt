@@ -120,8 +120,8 @@ shut-out = record {
 -- ---- all edits at once
 
 -- a call on these words, of this message length, with these edits and replacement bytes
-abbrev Called : List ℕ → ℕ → List ℕ → List ℕ → (κs : Lfts 3) → Dens κs all-kinds.ps → Type 0
-Called words len numbers bytes κs a = (a .0 .now ≡ words) × (a .1 .0 ≡ len) × (a .1 .1 .0 .now ≡ numbers) × (a .1 .1 .1 .0 .now ≡ bytes)
+abbrev AllCalled : List ℕ → ℕ → List ℕ → List ℕ → (κs : Lfts 3) → Dens κs all-kinds.ps → Type 0
+AllCalled words len numbers bytes κs a = (a .0 .now ≡ words) × (a .1 .0 ≡ len) × (a .1 .1 .0 .now ≡ numbers) × (a .1 .1 .1 .0 .now ≡ bytes)
 
 -- a call answers so
 abbrev Wrong : Type 1
@@ -129,7 +129,7 @@ Wrong = (κs : Lfts 3) → resT all-kinds.r κs .Denot → AtExit (endedOf 3 all
 
 abbrev AllShut : List ℕ → ℕ → List ℕ → List ℕ → Wrong → Type 0
 AllShut words len numbers bytes wrong =
-    tight.ShutOut 3 all-kinds.ps all-kinds.r all.Post (λ κs a x s. Called words len numbers bytes κs a × wrong κs x s)
+    tight.ShutOut 3 all-kinds.ps all-kinds.r all.Post (λ κs a x s. AllCalled words len numbers bytes κs a × wrong κs x s)
 
 record Accepts (x : answer.Spliced) : Type 0 where
   change : Change

@@ -19,10 +19,11 @@ use Rattle.reclaim.specs.Reclaimed.{Reclaimed, PromisedStore}
 use Rattle.reclaim.proofs.Unique.{mark-named, collect-named}
 use Rattle.reclaim.proofs.Reclaims as reclaims
 use Rattle.answers.specs.Answers.{leaving, numberAnswer, doneAnswer, dumpAnswer}
-use Rattle.latchbeacon.proofs.Worker.{numberRead, doneRead, family}
+use Rattle.answers.specs.Read.{numberRead, doneRead, dumpRead}
+use Rattle.latchbeacon.proofs.Worker.{family}
 use Rattle.latchbeacon.proofs.Demand as demand
 use Rattle.latchbeacon.proofs.Demand.{read-refused, number-read, done-read, read-leaving}
-use Rattle.latchbeacon.proofs.Restorer.{dumpRead, Restores, Describes, Checks, Marks, Collects}
+use Rattle.latchbeacon.proofs.Restorer.{Restores, Describes, Checks, Marks, Collects}
 
 -- each answer is read back from its struct
 dump-given : (d : Description) (base : Option ℕ) → d .base ≡ base → dumpRead (dumpAnswer (gives d)) ≡ gives d

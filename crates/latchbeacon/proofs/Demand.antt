@@ -22,7 +22,8 @@ use Rattle.ump.proofs.NotEmpty.{fits8}
 use Rattle.ump.proofs.Orders as orders
 use Rattle.edit.proofs.Audit as audit
 use Rattle.answers.specs.Answers.{leaving, numberAnswer, doneAnswer, changeAnswer, rangeAnswer, originAnswer}
-use Rattle.latchbeacon.proofs.Worker.{readAs, numberRead, doneRead, changeRead, rangeRead, originRead, family}
+use Rattle.answers.specs.Read.{readAs, numberRead, doneRead, changeRead, rangeRead, originRead}
+use Rattle.latchbeacon.proofs.Worker.{family}
 
 -- ---- reading a struct gives back the answer, as no refusal has the number 0
 

@@ -8,7 +8,7 @@ use Rattle.ump.specs.RealTime.{PassesOver, PromisedWriter}
 use Rattle.ump.proofs.Numbered.{stream-numbered}
 use Rattle.ump.proofs.RealTime as laws
 use Rattle.answers.specs.Answers.{leaving, numberAnswer}
-use Rattle.latchbeacon.proofs.Worker.{numberRead}
+use Rattle.answers.specs.Read.{numberRead}
 use Rattle.latchbeacon.proofs.Demand.{number-read, read-leaving}
 use Rattle.latchbeacon.proofs.Writer.{Writes}
 

@@ -1,16 +1,11 @@
 -- The exported calls on a store of dumps, with any outcome that their promises allow. Definitions alone. Assumes nothing.
 use mathlib.Core.Path.{_≡_}
-use mathlib.Core.Bool.{cond}
-use mathlib.Core.Option.{none, some}
-use Rattle.refusal.specs.Answer.{Answer}
 use Rattle.refusal.specs.Tight.{Called}
-use Rattle.chain.specs.Restore.{Description}
 use Rattle.chain.specs.Chained.{Restorer, Describer}
 use Rattle.restore.proofs.Calls.{restoreGiven, describeGiven}
 use Rattle.reclaim.specs.Reclaimed.{Checker, Marker, Collector}
 use Rattle.reclaim.proofs.Calls.{checkGiven, markGiven, collectGiven}
-use Rattle.answers.specs.declared.DumpAnswer.{DumpAnswer}
-use Rattle.latchbeacon.proofs.Worker.{readAs, numberRead, doneRead}
+use Rattle.answers.specs.Read.{numberRead, doneRead, dumpRead}
 use Rattle.latchbeacon.proofs.chains.latchbeacon_store_restore.Kinds as restore-kinds
 use Rattle.latchbeacon.proofs.chains.latchbeacon_store_restore.Reads as exported-restore
 use Rattle.latchbeacon.proofs.chains.latchbeacon_store_describe.Kinds as describe-kinds
@@ -21,19 +16,6 @@ use Rattle.latchbeacon.proofs.chains.latchbeacon_store_mark.Kinds as ma
 use Rattle.latchbeacon.proofs.chains.latchbeacon_store_mark.Reads as exported-mark
 use Rattle.latchbeacon.proofs.chains.latchbeacon_store_collect.Kinds as collect-kinds
 use Rattle.latchbeacon.proofs.chains.latchbeacon_store_collect.Reads as exported-collect
-
--- the struct of a dump, read
-abbrev pub dumpRead : DumpAnswer → Answer Description
-dumpRead said =
-    readAs (said .refusal) (said .place)
-    (record {
-      base = cond (said .delta) (some (said .base)) none;
-      group = said .group;
-      id = said .id;
-      size = said .size;
-      words = said .words;
-      steps = said .steps;
-    })
 
 -- `latchbeacon_store_restore` is called on this store, this number and these words; its struct is read so, and it leaves these words
 abbrev pub Restores : Restorer

@@ -1,22 +1,18 @@
--- The exported calls that edit a message, with any outcome that their promises allow, and how a caller reads their structs: refused where
--- the number is not 0. Definitions alone. Assumes nothing.
+-- The exported calls that edit a message, with any outcome that their promises allow, their structs read as a caller reads them.
+-- Definitions alone. Assumes nothing.
 use mathlib.Core.Path.{_≡_}
-use mathlib.Core.Bool.{Bool, cond}
+use mathlib.Core.Bool.{Bool}
 use mathlib.Core.List.{List}
 use Prim.Native.Nat.{ℕ}
-use lib.Dec.{eqb}
-use Rattle.refusal.specs.Answer.{Answer, gives, refused, Verdict, mapAnswer}
+use Rattle.refusal.specs.Answer.{Answer, mapAnswer}
 use Rattle.refusal.specs.Tight.{Called}
 use Rattle.ump.specs.Splice.{Spliced}
-use Rattle.ump.specs.Edits.{Edit, Range}
-use Rattle.ump.specs.Origin.{Origin, headerOctet, carried, dumpByte, editByte, filler, zeroed, untouched}
+use Rattle.ump.specs.Edits.{Edit}
+use Rattle.ump.specs.Origin.{Origin}
 use Rattle.ump.specs.Worker.{withRange}
 use Rattle.ump.specs.Demand.{Family}
 use Rattle.edit.proofs.Worker.{spliceGiven, repackGiven, listGiven, askGiven}
-use Rattle.answers.specs.declared.NumberAnswer.{NumberAnswer}
-use Rattle.answers.specs.declared.ChangeAnswer.{ChangeAnswer}
-use Rattle.answers.specs.declared.RangeAnswer.{RangeAnswer}
-use Rattle.answers.specs.declared.OriginAnswer.{OriginAnswer}
+use Rattle.answers.specs.Read.{numberRead, changeRead, rangeRead, originRead}
 use Rattle.latchbeacon.proofs.splices.latchbeacon_sysex8_repack.Kinds as repack-kinds
 use Rattle.latchbeacon.proofs.splices.latchbeacon_sysex8_repack.Reads as exported-repack
 use Rattle.latchbeacon.proofs.splices.latchbeacon_sysex8_splice.Kinds as splice-kinds
@@ -27,36 +23,6 @@ use Rattle.latchbeacon.proofs.splices.latchbeacon_sysex8_origin.Kinds a
 use Rattle.latchbeacon.proofs.splices.latchbeacon_sysex8_origin.Reads as exported-origin
 use Rattle.latchbeacon.proofs.edits.latchbeacon_move_edit.Kinds as move-kinds
 use Rattle.latchbeacon.proofs.edits.latchbeacon_move_edit.Reads as exported-move
-
--- ---- the structs, read
-
--- a value, refused where the number is not 0
-abbrev pub readAs : {A : Type 0} → ℕ → ℕ → A → Answer A
-readAs number place value = cond (eqb number 0) (gives value) (refused number place)
-
-abbrev pub numberRead : NumberAnswer → Answer ℕ
-numberRead said = readAs (said .refusal) (said .place) (said .value)
-
--- of a call that only stores
-abbrev pub doneRead : NumberAnswer → Verdict
-doneRead said = readAs (said .refusal) (said .place) tt
-
-abbrev pub changeRead : ChangeAnswer → Answer Spliced
-changeRead said = readAs (said .refusal) (said .place) (record { length = said .length; growth = said .growth })
-
-abbrev pub rangeRead : RangeAnswer → Answer Range
-rangeRead said = readAs (said .refusal) (said .place) (record { from = said .from; to = said .to })
-
--- the kinds of an origin by their numbers, as the header has them
-abbrev pub originRead : OriginAnswer → Answer Origin
-originRead said =
-    readAs (said .refusal) (said .place)
-    (cond (eqb (said .kind) 0) (headerOctet (said .number) (said .index))
-    (cond (eqb (said .kind) 1) (carried (dumpByte (said .index)))
-    (cond (eqb (said .kind) 2) (carried (editByte (said .number) (said .index)))
-    (cond (eqb (said .kind) 3) filler (cond (eqb (said .kind) 4) zeroed untouched)))))
-
--- ---- the calls
 
 -- `latchbeacon_sysex8_splice` is called on these words, this length, this edit's range and these bytes; its struct is read so, and it
 -- leaves these words

@@ -3,7 +3,7 @@ use mathlib.Core.Path.{_≡_}
 use Rattle.refusal.specs.Tight.{Called}
 use Rattle.ump.specs.RealTime.{Writer}
 use Rattle.stream.proofs.Writer.{streamGiven}
-use Rattle.latchbeacon.proofs.Worker.{numberRead}
+use Rattle.answers.specs.Read.{numberRead}
 use Rattle.latchbeacon.proofs.streams.latchbeacon_bytes_to_sysex7.Kinds as kinds
 use Rattle.latchbeacon.proofs.streams.latchbeacon_bytes_to_sysex7.Reads as exported
 

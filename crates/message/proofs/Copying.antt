@@ -2,7 +2,7 @@
 use mathlib.Core.Path.{_≡_, refl, sym, ap, _∙_}
 use mathlib.Core.List.{List, [], _++_}
 use Prim.Native.Nat.{ℕ, suc, _+_, _-_, _*_, _/_, _%_, _≤_, _<_}
-use native.Mathlib.Nat.{add-zero, div-one}
+use native.Mathlib.Nat.{add-zero}
 use native.Mathlib.Omega.{arith}
 use lib.ListN.{length, getD, set, take, drop, length-append}
 use lib.Seq.{paste, paste-zero, paste-suc, length-paste, take-at, drop-at, drop-drop, take-all}
@@ -81,11 +81,11 @@ module _ (ws d : List ℕ) (p at : ℕ) (f : Fitting ws d p at) (full : sizeAt s
   byte-is : (b : ℕ) → b < 13 → getD bytes b 0 ≡ byteAt sysex8 ws p b
   byte-is b h = getD-payloadAt sysex8 ws p (f .there) b (rw full h)
 
-  pub first-byte : set d at (getD ws (4 * p) 0 % 256) ≡ paste d at bytes 1
-  first-byte =
-      ap (λ (l : List ℕ). set l at (getD ws (4 * p) 0 % 256)) (paste-zero d at bytes)
+  pub first-byte : {value : ℕ} → value ≡ octet (getD ws (4 * p) 0) 3 → set d at value ≡ paste d at bytes 1
+  first-byte {value} e =
+      ap (λ (l : List ℕ). set l at value) (paste-zero d at bytes)
       ∙ byte-more d bytes at 0 1 at (omega arith) refl (omega (arith, f .room)) (omega (arith, long))
-      (byte-is 0 (omega arith) ∙ rw (add-zero (4 * p), div-one (getD ws (4 * p) 0)))
+      (byte-is 0 (omega arith) ∙ rw (add-zero (4 * p)) (sym e))
 
   pub row-more : (row j n k : ℕ) {us : List ℕ} → us ≡ paste d at bytes j → j + 3 ≡ 4 * row → row < 4 → k ≡ at + j → n ≡ j + 4
       → putFour us k (getD ws (4 * p + row) 0) ≡ paste d at bytes n

@@ -1,6 +1,6 @@
 -- What the loops over packets share. Assumes nothing.
-use mathlib.Core.Path.{_≡_, refl, ap}
-use Prim.Native.Nat.{ℕ, zero, suc, _+_, _*_, _≤_, _<_}
+use mathlib.Core.Path.{_≡_, ap}
+use Prim.Native.Nat.{ℕ, _+_, _*_, _≤_, _<_}
 use native.Mathlib.Nat.{mul-suc, mul-le-mul-left, le-mul-of-pos-right, mul-comm}
 use native.Mathlib.Omega.{arith}
 use mathlib.Core.Bool.{Bool, true, false, not, _||_}
@@ -64,10 +64,3 @@ found-fits {stride} {n} f h {i} e =
 -- there is a word to begin with
 pub begins : {stride n : ℕ} {ws : List ℕ} → Inside stride n ws → 0 < n → 0 < length ws
 begins h k = omega (arith, here 0 h k .index)
-
-pub last-of-four : (o : ℕ) → o < 4 → (o ≡ 0 → ⊥) → (o ≡ 1 → ⊥) → (o ≡ 2 → ⊥) → o ≡ 3
-last-of-four zero h a b c = absurd (a refl)
-last-of-four (suc zero) h a b c = absurd (b refl)
-last-of-four (suc (suc zero)) h a b c = absurd (c refl)
-last-of-four (suc (suc (suc zero))) h a b c = refl
-last-of-four (suc (suc (suc (suc o)))) h a b c = absurd (omega arith)

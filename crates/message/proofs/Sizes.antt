@@ -10,7 +10,7 @@ use lib.Dec.{ltb}
 use lib.ListN.{length, getD, length-append}
 use borrow.Author.Tests.{lt-ltb, le-ltb}
 use Rattle.ump.specs.Word.{nibble}
-use Rattle.ump.specs.Packet.{Shape, countAt, sizeAt, payloadAt, joined, payload}
+use Rattle.ump.specs.Packet.{Shape, sysex8, countAt, sizeAt, payloadAt, joined, payload}
 use Rattle.ump.specs.Edits.{total}
 use Rattle.ump.specs.Setters.{packetOf, byteIn}
 use Rattle.ump.proofs.First.{first-is, Passed, passed-zero, passed-one, passed-here, first-cong, first-le, Side, under, over, side}
@@ -48,17 +48,18 @@ module _ {stride least : ℕ} {ws : List ℕ} {n i : ℕ} where
           absurd (omega arith)
 
   -- it is not in packet p
-  pub seek-more : {p b : ℕ} → Seeking stride least ws n i p b → p < n → nibble (getD ws (stride * p) 0) 3 - least ≤ b
-      → Seeking stride least ws n i (p + 1) (b - (nibble (getD ws (stride * p) 0) 3 - least))
-  seek-more {p} {b} k l h =
+  pub seek-more : {p b count : ℕ} → Seeking stride least ws n i p b → p < n → count ≡ nibble (getD ws (stride * p) 0) 3 → count - least ≤ b
+      → Seeking stride least ws n i (p + 1) (b - (count - least))
+  seek-more {p} {b} k l e h =
       record {
         passed = passed-one (k .passed) l (le-ltb i (sizeTo stride least ws (suc p)) (omega (arith, size-more stride least ws p, k .left)));
         left = rw add-one (omega (arith, size-more stride least ws p, k .left));
       }
 
   -- it is
-  pub seek-found : {p b : ℕ} → Seeking stride least ws n i p b → p < n → b < nibble (getD ws (stride * p) 0) 3 - least → Found stride least ws n i p b
-  seek-found {p} {b} k l h =
+  pub seek-found : {p b count : ℕ} → Seeking stride least ws n i p b → p < n → count ≡ nibble (getD ws (stride * p) 0) 3 → b < count - least
+      → Found stride least ws n i p b
+  seek-found {p} {b} k l e h =
       record {
         packet-is = passed-here (k .passed) l (lt-ltb i (sizeTo stride least ws (suc p)) (omega (arith, size-more stride least ws p, k .left)));
         byte-is = k .left;
@@ -122,11 +123,12 @@ module _ {ws : List ℕ} {n size i : ℕ} (m : Sized ws n size) (h : i < size) w
   pub some-packet : 0 < n
   some-packet = seek-below below-size (seek-start {i = i})
 
-  pub at-once : size ≡ 13 * (n - 1) + (nibble (getD ws (4 * (n - 1)) 0) 3 - 1) → Found 4 1 ws n i (i / 13) (i % 13)
+  pub at-once : size ≡ 13 * (n - 1) + sizeAt sysex8 ws (n - 1) → Found 4 1 ws n i (i / 13) (i % 13)
   at-once e =
       let q : n ≡ suc (n - 1) = omega (arith, some-packet) in
+      let c : sizeAt sysex8 ws (n - 1) ≡ nibble (getD ws (4 * (n - 1)) 0) 3 - 1 = size-of-count sysex8 (countAt sysex8 ws (n - 1)) (m .counted (n - 1) (omega (arith, some-packet)) .1) in
       subst (λ (k : ℕ). Found 4 1 ws k i (i / 13) (i % 13)) (sym q)
-      (found-full 4 1 13 ws (n - 1) (λ p l. m .counted p (omega arith)) (rw (← q) (sym (m .size-is) ∙ e)) (rw (← q) below-size) (omega arith) (omega arith))
+      (found-full 4 1 13 ws (n - 1) (λ p l. m .counted p (omega arith)) (rw (← q, ← c) (sym (m .size-is) ∙ e)) (rw (← q) below-size) (omega arith) (omega arith))
 
 -- ---- for a shape, these are the sizes of its payload
 

@@ -110,4 +110,4 @@ pub record Found (stride least : ℕ) (words : List ℕ) (n i p b : ℕ) : Type 
 
 -- a first word with another stream id, or with another group
 abbrev pub headWith : ℕ → Bool → ℕ → ℕ
-headWith value stream x = cond stream (withId x value) (withGroup x value)
+headWith value stream x = cond stream (withId x value) (withGroup x (value % 16))

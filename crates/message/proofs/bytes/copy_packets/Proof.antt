@@ -21,7 +21,7 @@ abbrev μ-loop : tie.MeasureT-loop
 
 at-packet : (c : tie.In-loop Inv-loop μ-loop) → let d = c .before .before .before .before in
     Here 4 (c .before .loop .packet) (d .args .words .now)
-at-packet c = here (c .before .loop .packet) (c .before .before .before .before .pre .0) (c .loop-test .taken)
+at-packet c = here (c .before .loop .packet) (c .before .before .before .before .pre .inside) (c .loop-test .taken)
 
 -- the bytes of the packet
 piece : (c : tie.In-loop Inv-loop μ-loop) → let d = c .before .before .before .before in
@@ -34,7 +34,7 @@ room : (c : tie.In-loop Inv-loop μ-loop) → let d = c .before .before .before 
 room c =
     let d = c .before .before .before .before in
     let l = c .before .loop in
-    omega (arith, payload-part sysex8 (d .args .words .now) (d .args .packets) (l .packet) (c .loop-test .taken), piece c, l .inv .1, l .inv .2, d .pre .2)
+    omega (arith, payload-part sysex8 (d .args .words .now) (d .args .packets) (l .packet) (c .loop-test .taken), piece c, l .inv .1, l .inv .2, d .pre .room)
 
 loop-again : tie.Need-loop-again Inv-loop μ-loop
 loop-again c =
@@ -59,7 +59,7 @@ copy-packets-spec =
     Inv-loop
     μ-loop
     (λ c. (omega arith, rw (copy-none sysex8 (c .before .before .args .words .now)), refl, rw (copy-none sysex8 (c .before .before .args .words .now))))
-    (λ c κs. let d = c .before .before .before .before .before in let k = d .pre .1 _ (c .before .loop-test .taken) in record { there = at-packet (c .before) .there; few = omega (arith, at-packet (c .before) .few); enough = k .0; most = k .1; room = room (c .before) })
+    (λ c κs. record { there = at-packet (c .before) .there; few = omega (arith, at-packet (c .before) .few); room = room (c .before) })
     (λ c. omega (arith, at-packet (c .before .before .before .before) .number))
     (λ c. omega (arith, c .before .before .before .before .loop-test .taken))
     loop-again

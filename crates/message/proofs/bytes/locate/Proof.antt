@@ -1,22 +1,23 @@
 -- `message::bytes::locate`: no packet passed reaches the byte. Assumes nothing.
+use borrow.Author.Needs.{needs}
 use Prim.Native.Nat.{_-_, _<_}
 use native.Mathlib.Omega.{arith}
 use Rattle.message.proofs.Laws.{Here, here}
-use Rattle.message.proofs.Sizes.{Seeking, seek-start, seek-below, seek-more, seek-found}
+use Rattle.message.proofs.Sizes.{Seeking, seek-start, seek-below, seek-more, seek-found, below-size}
 use Rattle.message.proofs.bytes.locate.Statement.{statement}
 use Rattle.message.proofs.bytes.locate.Tie as tie
 
 abbrev Inv-loop : tie.InvT-loop
-Inv-loop words stride packets least index packet₀ byte₀ packet byte = Seeking stride least words packets index packet byte
+Inv-loop words packets size index packet₀ byte₀ packet byte = Seeking 4 1 words packets index packet byte
 
 abbrev μ-loop : tie.MeasureT-loop
-μ-loop words stride packets least index packet₀ byte₀ packet byte = packets - packet
+μ-loop words packets size index packet₀ byte₀ packet byte = packets - packet
 
-below : (c : tie.At-loop Inv-loop μ-loop) → c .loop .packet < c .before .args .packets
-below c = seek-below (c .before .pre .2) (c .loop .inv)
+below : (c : tie.At-loop Inv-loop μ-loop) → c .loop .packet < c .before .before .args .packets
+below c = let p = c .before .before .pre in seek-below (below-size (p .0) (p .1)) (c .loop .inv)
 
-at : (c : tie.At-loop Inv-loop μ-loop) → Here (c .before .args .stride) (c .loop .packet) (c .before .args .words .now)
-at c = here (c .loop .packet) (c .before .pre .0) (below c)
+at : (c : tie.At-loop Inv-loop μ-loop) → Here 4 (c .loop .packet) (c .before .before .args .words .now)
+at c = here (c .loop .packet) (c .before .before .pre .0 .inside) (below c)
 
 pub locate-spec : {M : Type 1} → statement M
 locate-spec =
@@ -28,9 +29,10 @@ locate-spec =
     (λ c. at c .fits)
     (λ c. at c .bytes-fit)
     (λ c. at (c .before) .index)
-    (λ c. c .before .before .pre .1 _ (below (c .before)) .0)
-    (λ c. omega arith)
-    (λ c. seek-found (c .before .before .loop .inv) (below (c .before .before)) (c .if1 .taken))
-    (λ c. omega (arith, at (c .before .before) .number))
-    (λ c. omega (arith, below (c .before .before)))
-    (λ c. seek-more (c .before .before .loop .inv) (below (c .before .before)) (c .if1 .left)))
+    (λ c κs. search needs)
+    (λ c. search needs)
+    (λ c. let l = c .before .before in omega (arith, c .count-of .ensures, l .before .before .pre .0 .counted _ (below l) .0))
+    (λ c. let k = c .before in let l = k .before .before in seek-found (l .loop .inv) (below l) (k .count-of .ensures) (c .if1 .taken))
+    (λ c. omega (arith, at (c .before .before .before) .number))
+    (λ c. omega (arith, below (c .before .before .before)))
+    (λ c. let k = c .before in let l = k .before .before in seek-more (l .loop .inv) (below l) (k .count-of .ensures) (c .if1 .left)))

@@ -6,7 +6,7 @@ use borrow.Author.Tests.{lt-ltb, le-ltb}
 use Rattle.refusal.specs.Answer.{gives}
 use Rattle.ump.specs.Packet.{sysex8}
 use Rattle.ump.specs.Setters.{copyPayload}
-use Rattle.message.proofs.Checked.{shaped8, Taken, found-none, found-taken, taken-inside, taken-counted}
+use Rattle.message.proofs.Checked.{shaped8, Taken, found-none, found-taken, taken-inside}
 use Rattle.message.proofs.sysex8.payload.Statement.{statement}
 use Rattle.message.proofs.sysex8.payload.Tie as tie
 
@@ -38,6 +38,6 @@ payload-spec =
     returns
     (λ c. search needs)
     returns-2
-    (λ c κs. let e = c .before in let m = message (e .before) in (taken-inside sysex8 shaped8 _ _ (m .valid), taken-counted sysex8 shaped8 _ _ (m .valid), rw (← (m .sized)) (e .if2 .left)))
+    (λ c κs. let e = c .before in let m = message (e .before) in record { inside = taken-inside sysex8 shaped8 _ _ (m .valid); room = rw (← (m .sized)) (e .if2 .left) })
     (λ c. search needs)
     returns-3)

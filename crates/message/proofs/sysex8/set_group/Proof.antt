@@ -1,12 +1,13 @@
 -- `message::sysex8::set_group`: the check, then Field, then the first word of each packet. Assumes nothing.
 use borrow.Author.Needs.{needs}
-use mathlib.Core.Path.{refl, ap}
-use Prim.Native.Nat.{_-_}
+use mathlib.Core.Path.{_≡_, refl, ap, _∙_}
+use Prim.Native.Nat.{ℕ, _-_, _/_, _%_}
 use native.Mathlib.Omega.{arith}
 use borrow.Author.Tests.{lt-ltb, le-ltb}
 use Rattle.refusal.specs.Answer.{pass}
 use Rattle.ump.specs.Packet.{sysex8}
-use Rattle.ump.specs.Setters.{setGroup}
+use Rattle.ump.specs.Single.{withGroup}
+use Rattle.ump.specs.Setters.{onHeads, setGroup}
 use Rattle.message.proofs.Checked.{shaped8, Taken, found-none, found-taken, taken-inside}
 use Rattle.message.proofs.sysex8.set_group.Statement.{statement}
 use Rattle.message.proofs.sysex8.set_group.Tie as tie
@@ -27,7 +28,10 @@ unfolding setGroup
 returns-3 c =
     let h = c .before .before in
     let e = h .before .before in
-    rw (message (e .before) .passes, le-ltb _ _ (e .if2 .left)) (ap (λ l. (pass, l)) (h .set-heads .ensures sysex8 refl))
+    let a = e .before .before .before .before .before .args in
+    let whole : a .group % 16 ≡ a .group = omega (arith, e .if2 .left) in
+    rw (message (e .before) .passes, le-ltb _ _ (e .if2 .left))
+    (ap (λ l. (pass, l)) (h .set-heads .ensures sysex8 refl ∙ ap (λ (g : ℕ). onHeads sysex8 (λ x. withGroup x g) (a .words .now) (a .length / 4)) whole))
 
 pub set-group-spec : {M : Type 1} → statement M
 set-group-spec =
@@ -39,6 +43,6 @@ set-group-spec =
     returns
     (λ c. search needs)
     returns-2
-    (λ c κs. (taken-inside sysex8 shaped8 _ _ (message (c .before .before) .valid), λ e. omega (arith, c .before .if2 .left)))
+    (λ c κs. taken-inside sysex8 shaped8 _ _ (message (c .before .before) .valid))
     (λ c. search needs)
     returns-3)

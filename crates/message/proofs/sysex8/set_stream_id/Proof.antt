@@ -1,8 +1,7 @@
 -- `message::sysex8::set_stream_id`: the check, then the first word of each packet. Assumes nothing.
 use borrow.Author.Needs.{needs}
-use mathlib.Core.Path.{_≡_, refl, ap}
-use Prim.Native.Nat.{ℕ, _-_}
-use native.Mathlib.Omega.{arith}
+use mathlib.Core.Path.{refl, ap}
+use Prim.Native.Nat.{_-_}
 use Rattle.refusal.specs.Answer.{pass}
 use Rattle.ump.specs.Packet.{sysex8}
 use Rattle.ump.specs.Setters.{setId}
@@ -31,6 +30,6 @@ set-stream-id-spec =
     (λ c κs. search needs)
     (λ c. search needs)
     returns
-    (λ c κs. (taken-inside sysex8 shaped8 _ _ (message (c .before) .valid), λ e. let z : _≡_ {A = ℕ} 0 1 = cc in absurd (omega arith)))
+    (λ c κs. taken-inside sysex8 shaped8 _ _ (message (c .before) .valid))
     (λ c. search needs)
     returns-2)

@@ -9,6 +9,7 @@ use borrow.Author.Tests.{lt-ltb, le-ltb, eq-eqb, ne-eqb}
 use Rattle.refusal.specs.Answer.{refused}
 use Rattle.ump.specs.Packet.{Shape, payload}
 use Rattle.ump.specs.Check.{check, checkPackets, payloadOf}
+use Rattle.message.specs.declared.scan.Form.{Form}
 use Rattle.message.specs.Scan.{Framed, Inside, Shaped}
 
 -- whole packets, and what is left over behind them
@@ -30,13 +31,13 @@ framed-inside ws f h =
       few = omega (arith, whole f, f .inside, f .few);
     }
 
-module _ {stride type least most modulus : ℕ} (s : Shape) (h : Shaped s stride type least most modulus) (ws : List ℕ) (len : ℕ) where
+module _ {form : Form} (s : Shape) (h : Shaped s form) (ws : List ℕ) (len : ℕ) where
   -- the numbers are the shape's
-  of-shape : {n : ℕ} → Framed (length ws) len stride n → Framed (length ws) len (s .words) n
+  of-shape : {n : ℕ} → Framed (length ws) len (form .stride) n → Framed (length ws) len (s .words) n
   of-shape {n} f = subst (λ (w : ℕ). Framed (length ws) len w n) (sym (h .words-are)) f
 
   -- past the first four tests the packets decide
-  pub check-framed : {n : ℕ} → Framed (length ws) len stride n → check s ws len ≡ checkPackets s ws n
+  pub check-framed : {n : ℕ} → Framed (length ws) len (form .stride) n → check s ws len ≡ checkPackets s ws n
   unfolding check
   check-framed g =
       let f = of-shape g in
@@ -48,7 +49,7 @@ module _ {stride type least most modulus : ℕ} (s : Shape) (h : Shaped s stride
         ← (f .packets),
       )
 
-  pub payload-framed : {n : ℕ} → Framed (length ws) len stride n → payloadOf s ws len ≡ payload s ws n
+  pub payload-framed : {n : ℕ} → Framed (length ws) len (form .stride) n → payloadOf s ws len ≡ payload s ws n
   payload-framed f = ap (payload s ws) (sym (of-shape f .packets))
 
   -- each of the four refusals
@@ -62,11 +63,11 @@ module _ {stride type least most modulus : ℕ} (s : Shape) (h : Shaped s stride
     refuse-length b = rw (le-ltb 16384 (length ws) a, lt-ltb (length ws) len b)
 
     module _ (b : len ≤ length ws) where
-      pub refuse-short : len < stride → refused 3 0 ≡ check s ws len
+      pub refuse-short : len < (form .stride) → refused 3 0 ≡ check s ws len
       unfolding check
       refuse-short c = rw (le-ltb 16384 (length ws) a, le-ltb (length ws) len b, lt-ltb len (s .words) (rw (h .words-are) c))
 
-      pub refuse-ragged : stride ≤ len → (len % stride ≡ 0 → ⊥) → refused 4 0 ≡ check s ws len
+      pub refuse-ragged : (form .stride) ≤ len → (len % (form .stride) ≡ 0 → ⊥) → refused 4 0 ≡ check s ws len
       unfolding check
       refuse-ragged c d =
           rw (le-ltb 16384 (length ws) a, le-ltb (length ws) len b, le-ltb len (s .words) (rw (h .words-are) c), ne-eqb (len % s .words) 0 (rw (h .words-are) d))

@@ -12,13 +12,14 @@ use Rattle.ump.specs.Packet.{Shape, sysex8, sysex7, countAt, groupAt, idAt}
 use Rattle.ump.specs.Check.{check, checked, payloadOf, Summary, Valid, summary}
 use Rattle.ump.proofs.Sizes.{words-pos}
 use Rattle.ump.proofs.Checks.{passes-valid}
+use Rattle.message.specs.declared.scan.Form.{Form}
 use Rattle.message.specs.Scan.{Framed, Inside, Counted, Shaped, orNone, inOrder, sizeFound, no-id, one-id}
 use Rattle.message.proofs.Bounds.{check-framed, payload-framed}
 
-pub shaped8 : Shaped sysex8 4 5 1 14 256
+pub shaped8 : Shaped sysex8 (record { stride = 4; kind = 5; least = 1; most = 14; modulus = 256 })
 shaped8 = record { words-are = refl; type-is = refl; least-is = refl; most-is = refl; ids-are = one-id }
 
-pub shaped7 : Shaped sysex7 2 3 0 6 1
+pub shaped7 : Shaped sysex7 (record { stride = 2; kind = 3; least = 0; most = 6; modulus = 1 })
 shaped7 = record { words-are = refl; type-is = refl; least-is = refl; most-is = refl; ids-are = no-id }
 
 -- ---- what a call learns from the check
@@ -69,15 +70,15 @@ module _ (s : Shape) (ws : List ℕ) (len : ℕ) where
   checked-size m = rw (m .passes, ← (m .sized))
 
 -- the packets of a message that was taken
-module _ {stride type least most modulus : ℕ} (s : Shape) (h : Shaped s stride type least most modulus) (ws : List ℕ) (len : ℕ) (v : Valid s ws len) where
-  packets-are : len / stride ≡ v .packets
+module _ {form : Form} (s : Shape) (h : Shaped s form) (ws : List ℕ) (len : ℕ) (v : Valid s ws len) where
+  packets-are : len / (form .stride) ≡ v .packets
   packets-are =
       ap (λ (w : ℕ). len / w) (sym (h .words-are)) ∙ ap (λ (l : ℕ). l / s .words) (v .whole) ∙ mul-div-right (v .packets) (words-pos s)
 
-  whole-is : stride * (len / stride) ≡ len
+  whole-is : (form .stride) * (len / (form .stride)) ≡ len
   whole-is = ap₂ (λ (a b : ℕ). a * b) (sym (h .words-are)) packets-are ∙ sym (v .whole)
 
-  pub taken-inside : Inside stride (len / stride) ws
+  pub taken-inside : Inside (form .stride) (len / (form .stride)) ws
   taken-inside =
       record {
         some-words = rw (h .words-are) at (words-pos s);
@@ -85,31 +86,31 @@ module _ {stride type least most modulus : ℕ} (s : Shape) (h : Shaped s stride
         few = omega (arith, whole-is, v .inside, v .short-enough);
       }
 
-  valid-framed : Framed (length ws) len stride (len / stride)
+  valid-framed : Framed (length ws) len (form .stride) (len / (form .stride))
   valid-framed =
-      let some : 0 < len / stride = rw packets-are (v .some-packet) in
+      let some : 0 < len / (form .stride) = rw packets-are (v .some-packet) in
       record {
         few = v .short-enough;
         inside = v .inside;
-        long-enough = omega (arith, whole-is, le-mul-of-pos-right stride some);
-        ragged-not = omega (arith, whole-is, div-add-mod len stride);
+        long-enough = omega (arith, whole-is, le-mul-of-pos-right (form .stride) some);
+        ragged-not = omega (arith, whole-is, div-add-mod len (form .stride));
         packets = refl;
       }
 
-  pub taken-counted : Counted stride (len / stride) least most ws
+  pub taken-counted : Counted (form .stride) (len / (form .stride)) (form .least) (form .most) ws
   taken-counted p l =
       let k = v .counts p (rw packets-are at l) in
-      let c : nibble (getD ws (stride * p) 0) 3 ≡ countAt s ws p = rw (h .words-are) in
+      let c : nibble (getD ws ((form .stride) * p) 0) 3 ≡ countAt s ws p = rw (h .words-are) in
       (rw (c, ← (h .least-is)) (k .0), rw (c, ← (h .most-is)) (k .1))
 
 -- the number found, by the packets
-module _ {stride type least most modulus : ℕ} (s : Shape) (h : Shaped s stride type least most modulus) (ws : List ℕ) (len : ℕ) where
-  pub found-unframed : ((m : ℕ) → Framed (length ws) len stride m → ⊥) → 0 ≡ sizeFound s ws len
+module _ {form : Form} (s : Shape) (h : Shaped s form) (ws : List ℕ) (len : ℕ) where
+  pub found-unframed : ((m : ℕ) → Framed (length ws) len (form .stride) m → ⊥) → 0 ≡ sizeFound s ws len
   found-unframed none = go (check s ws len) refl
     where
       go : (v : Verdict) → check s ws len ≡ v → 0 ≡ orNone (v ▷ gives (suc (length (payloadOf s ws len))))
       go (gives u) p = absurd (none _ (valid-framed s h ws len (passes-valid s ws len p)))
       go (refused number place) p = refl
 
-  pub found-framed : {n : ℕ} → Framed (length ws) len stride n → inOrder s ws n ≡ sizeFound s ws len
+  pub found-framed : {n : ℕ} → Framed (length ws) len (form .stride) n → inOrder s ws n ≡ sizeFound s ws len
   found-framed f = rw (check-framed s h ws len f, payload-framed s h ws len f)

@@ -20,15 +20,16 @@ use Rattle.ump.proofs.Checks.{sweep-pass, pass-sweep, pass-both, both-pass, or-
 use Rattle.ump.proofs.Counting.{total-const}
 use Rattle.ump.proofs.Moving.{total-ge}
 use Rattle.ump.proofs.Replace.{total-cong}
+use Rattle.message.specs.declared.scan.Form.{Form}
 use Rattle.message.specs.Scan.{Inside, countOut, sizeTo, Shaped, faulty, one, orNone, inOrder}
 use Rattle.message.proofs.Laws.{count-in}
 use Rattle.message.proofs.Stages.{type-at, status-at, count-at, group-at, id-at}
 use Rattle.message.proofs.Sizes.{total-most, size-to}
 use Rattle.message.proofs.Masks.{Numbers, maskFor, baseFor, not-faulty, one-small, clear-numbers, numbers-clear}
 
-module _ {stride type least most modulus : ℕ} (s : Shape) (ws : List ℕ) (n : ℕ) (h : Shaped s stride type least most modulus) where
+module _ {form : Form} (s : Shape) (ws : List ℕ) (n : ℕ) (h : Shaped s form) where
   abbrev InStep : ℕ → Type 0
-  InStep p = Numbers type least most modulus (getD ws 0 0) n p (getD ws (stride * p) 0)
+  InStep p = Numbers (form .kind) (form .least) (form .most) (form .modulus) (getD ws 0 0) n p (getD ws ((form .stride) * p) 0)
 
   equal : (a b : ℕ) → not (eqb a b) ≡ false → a ≡ b
   equal a b e = eqb-true a b (not-false (eqb a b) e)
@@ -40,13 +41,13 @@ module _ {stride type least most modulus : ℕ} (s : Shape) (ws : List ℕ) (n :
       let e2 = pass-both _ _ (e1 .1) in
       let e3 = pass-both _ _ (e2 .1) in
       let e4 = pass-both _ _ (e3 .1) in
-      let k : countOut stride ws least most p ≡ false = sym (count-at s ws n h p) ∙ pass-sweep s (λ p. 10) (badCount s ws) n (e3 .0) p l in
-      let x : ℕ = getD ws (stride * p) 0 in
+      let k : countOut (form .stride) ws (form .least) (form .most) p ≡ false = sym (count-at s ws n h p) ∙ pass-sweep s (λ p. 10) (badCount s ws) n (e3 .0) p l in
+      let x : ℕ = getD ws ((form .stride) * p) 0 in
       record {
         of-type = equal _ _ (sym (type-at s ws n h p) ∙ pass-sweep s (λ p. 5) (badType s ws) n (e1 .0) p l);
         in-step = equal _ _ (sym (status-at s ws n h p) ∙ pass-sweep s (statusNumber n) (badStatus s ws n) n (e2 .0) p l);
-        enough = ltb-false _ _ (or-left (ltb (nibble x 3) least) (ltb most (nibble x 3)) k);
-        fitting = ltb-false _ _ (or-right (ltb (nibble x 3) least) (ltb most (nibble x 3)) k);
+        enough = ltb-false _ _ (or-left (ltb (nibble x 3) (form .least)) (ltb (form .most) (nibble x 3)) k);
+        fitting = ltb-false _ _ (or-right (ltb (nibble x 3) (form .least)) (ltb (form .most) (nibble x 3)) k);
         one-group = equal _ _ (sym (group-at s ws n h p) ∙ pass-sweep s (λ p. 11) (badGroup s ws) n (e4 .0) p l);
         one-stream = equal _ _ (sym (id-at s ws n h p) ∙ pass-sweep s (λ p. 12) (badId s ws) n (e4 .1) p l);
       }
@@ -64,28 +65,24 @@ module _ {stride type least most modulus : ℕ} (s : Shape) (ws : List ℕ) (n :
 
 -- what a pass over packets is given: the numbers of a shape, the words, and how many packets
 pub record Pass : Type 0 where
-  pub type : ℕ
-  pub stride : ℕ
-  pub least : ℕ
-  pub most : ℕ
-  pub modulus : ℕ
+  pub form : Form
   pub words : List ℕ
   pub packets : ℕ
 
 -- the first word of packet p
 abbrev wordAt : Pass → ℕ → ℕ
-wordAt k p = getD (k .words) (k .stride * p) 0
+wordAt k p = getD (k .words) (k .form .stride * p) 0
 
--- what is wanted of it, by its status; whether it is at fault, 1 if so
-abbrev wantedBy : Pass → ℕ → ℕ
-wantedBy k status = baseFor (k .type) (k .modulus) (getD (k .words) 0 0) + status * 2 ^ 20
+-- whether it is at fault, by the number wanted and the status added to it: 1 if so
+abbrev pub baseOf : Pass → ℕ
+baseOf k = baseFor (k .form .kind) (k .form .modulus) (getD (k .words) 0 0)
 
-abbrev pub judged : Pass → ℕ → ℕ → ℕ
-judged k status x = one (faulty (maskFor (k .modulus)) (wantedBy k status) (k .least) (k .most) x)
+abbrev pub judged : Pass → ℕ → ℕ → ℕ → ℕ
+judged k base status x = one (faulty (maskFor (k .form .modulus)) (base + status * 2 ^ 20) (k .form .least) (k .form .most) x)
 
 -- faults and count of packet p
 abbrev pub faultAt : Pass → ℕ → ℕ
-faultAt k p = judged k (statusFor (k .packets) p) (wordAt k p)
+faultAt k p = judged k (baseOf k) (statusFor (k .packets) p) (wordAt k p)
 
 abbrev pub countedAt : Pass → ℕ → ℕ
 countedAt k p = wordAt k p / 2 ^ 16 % 16
@@ -101,33 +98,34 @@ total-one : (f : ℕ → ℕ) {n : ℕ} → n ≡ 1 → total f n ≡ f 0
 unfolding total
 total-one f e = rw e (omega arith)
 
-counts-are : (k : Pass) (n : ℕ) → ((p : ℕ) → p < n → k .least ≤ countedAt k p)
-    → total (countedAt k) n ≡ k .least * n + sizeTo (k .stride) (k .least) (k .words) n
+counts-are : (k : Pass) (n : ℕ) → ((p : ℕ) → p < n → k .form .least ≤ countedAt k p)
+    → total (countedAt k) n ≡ k .form .least * n + sizeTo (k .form .stride) (k .form .least) (k .words) n
 unfolding sizeTo total
 counts-are k zero h = omega arith
-counts-are k (suc n) h = omega (arith, counts-are k n (λ p l. h p (omega arith)), h n (omega arith), mul-suc (k .least) n)
+counts-are k (suc n) h = omega (arith, counts-are k n (λ p l. h p (omega arith)), h n (omega arith), mul-suc (k .form .least) n)
 
 module _ (k : Pass) where
   -- the first packet, one in the loop, and the last
-  pub fault-first : {status : ℕ} → status ≡ statusFor (k .packets) 0 → judged k status (getD (k .words) 0 0) ≡ faultAt k 0
-  fault-first e = rw (e, mul-zero (k .stride))
+  module _ {base : ℕ} (wanted : base ≡ baseOf k) where
+    pub fault-first : {status : ℕ} → status ≡ statusFor (k .packets) 0 → judged k base status (getD (k .words) 0 0) ≡ faultAt k 0
+    fault-first e = rw (wanted, e, mul-zero (k .form .stride))
 
-  pub fault-inner : (p : ℕ) → 0 < p → suc p < k .packets → judged k 2 (wordAt k p) ≡ faultAt k p
-  fault-inner p a b = rw (status-inner (k .packets) p (λ e. omega arith) (λ e. omega arith) (λ e. omega arith))
+    pub fault-inner : (p : ℕ) → 0 < p → suc p < k .packets → judged k base 2 (wordAt k p) ≡ faultAt k p
+    fault-inner p a b = rw (wanted, status-inner (k .packets) p (λ e. omega arith) (λ e. omega arith) (λ e. omega arith))
 
-  pub fault-last : (p : ℕ) → 0 < p → suc p ≡ k .packets → judged k 3 (wordAt k p) ≡ faultAt k p
-  unfolding statusFor
-  fault-last p a b = rw (place-last {A = ℕ} 0 1 2 3 (k .packets) p (λ e. omega arith) (λ e. omega arith) b)
+    pub fault-last : (p : ℕ) → 0 < p → suc p ≡ k .packets → judged k base 3 (wordAt k p) ≡ faultAt k p
+    unfolding statusFor
+    fault-last p a b = rw (wanted, place-last {A = ℕ} 0 1 2 3 (k .packets) p (λ e. omega arith) (λ e. omega arith) b)
 
   pub fault-small : (p : ℕ) → faultAt k p ≤ 1
-  fault-small p = one-small (faulty (maskFor (k .modulus)) (wantedBy k (statusFor (k .packets) p)) (k .least) (k .most) (wordAt k p))
+  fault-small p = one-small (faulty (maskFor (k .form .modulus)) (baseOf k + statusFor (k .packets) p * 2 ^ 20) (k .form .least) (k .form .most) (wordAt k p))
 
   -- the count of a packet that is not at fault, and of the only one
-  pub counts-enough : (p : ℕ) → faultAt k p ≡ 0 → k .least ≤ countedAt k p
-  counts-enough p e = not-faulty (maskFor (k .modulus)) (wantedBy k (statusFor (k .packets) p)) (k .least) (k .most) (wordAt k p) e .1
+  pub counts-enough : (p : ℕ) → faultAt k p ≡ 0 → k .form .least ≤ countedAt k p
+  counts-enough p e = not-faulty (maskFor (k .form .modulus)) (baseOf k + statusFor (k .packets) p * 2 ^ 20) (k .form .least) (k .form .most) (wordAt k p) e .1
 
   pub count-first : countedAt k 0 ≡ getD (k .words) 0 0 / 2 ^ 16 % 16
-  count-first = rw (mul-zero (k .stride))
+  count-first = rw (mul-zero (k .form .stride))
 
 module _ {k : Pass} {last : ℕ} where
   pub summed-start : {bad counts : ℕ} → 0 < last → faultAt k 0 ≡ 0 → bad ≡ faultAt k last → counts ≡ countedAt k 0 + countedAt k last
@@ -160,14 +158,14 @@ module _ {k : Pass} {last : ℕ} where
   )
 
 -- the counts reach what the least of each comes to
-pub counts-reach : (k : Pass) → total (faultAt k) (k .packets) ≡ 0 → k .least * k .packets ≤ total (countedAt k) (k .packets)
+pub counts-reach : (k : Pass) → total (faultAt k) (k .packets) ≡ 0 → k .form .least * k .packets ≤ total (countedAt k) (k .packets)
 counts-reach k e =
     omega (arith, counts-are k (k .packets) (λ p l. counts-enough k p (omega (arith, total-ge (faultAt k) (k .packets) p l))))
 
 -- what the sums say of the packets
-module _ (s : Shape) (k : Pass) (h : Shaped s (k .stride) (k .type) (k .least) (k .most) (k .modulus))
+module _ (s : Shape) (k : Pass) (h : Shaped s (k .form))
     (small : (i : ℕ) → getD (k .words) i 0 < 2 ^ 32) where
-  kind-fits : k .type < 16
+  kind-fits : k .form .kind < 16
   kind-fits = rw (h .type-is) at (s .type-fits)
 
   pub some-fault : (total (faultAt k) (k .packets) ≡ 0 → ⊥) → 0 ≡ inOrder s (k .words) (k .packets)
@@ -176,7 +174,7 @@ module _ (s : Shape) (k : Pass) (h : Shaped s (k .stride) (k .type) (k .least) (
       clear : checkPackets s (k .words) (k .packets) ≡ pass → total (faultAt k) (k .packets) ≡ 0
       clear e =
           total-cong (faultAt k) (λ p. 0) (k .packets)
-          (λ p l. numbers-clear (h .ids-are) kind-fits (k .least) (k .most) (getD (k .words) 0 0) (k .packets) p (wordAt k p) (small 0) (small (k .stride * p)) (passes-numbers s (k .words) (k .packets) h e p l))
+          (λ p l. numbers-clear (h .ids-are) kind-fits (k .form .least) (k .form .most) (getD (k .words) 0 0) (k .packets) p (wordAt k p) (small 0) (small (k .form .stride * p)) (passes-numbers s (k .words) (k .packets) h e p l))
           ∙ total-const 0 (k .packets)
           ∙ omega arith
 
@@ -184,8 +182,8 @@ module _ (s : Shape) (k : Pass) (h : Shaped s (k .stride) (k .type) (k .least) (
       go (gives u) e = absurd (bad (clear e))
       go (refused number place) e = refl
 
-  pub no-fault : Inside (k .stride) (k .packets) (k .words) → total (faultAt k) (k .packets) ≡ 0
-      → total (countedAt k) (k .packets) - k .least * k .packets + 1 ≡ inOrder s (k .words) (k .packets)
+  pub no-fault : Inside (k .form .stride) (k .packets) (k .words) → total (faultAt k) (k .packets) ≡ 0
+      → total (countedAt k) (k .packets) - k .form .least * k .packets + 1 ≡ inOrder s (k .words) (k .packets)
   no-fault inside none =
       rw (numbers-pass s (k .words) (k .packets) h each)
       (omega (
@@ -194,15 +192,15 @@ module _ (s : Shape) (k : Pass) (h : Shaped s (k .stride) (k .type) (k .least) (
         size-to s (k .words) (k .packets) h inside (λ p l. (each p l .enough, each p l .fitting)) (k .packets) (omega arith),
       ))
     where
-      each : (p : ℕ) → p < k .packets → Numbers (k .type) (k .least) (k .most) (k .modulus) (getD (k .words) 0 0) (k .packets) p (wordAt k p)
+      each : (p : ℕ) → p < k .packets → Numbers (k .form .kind) (k .form .least) (k .form .most) (k .form .modulus) (getD (k .words) 0 0) (k .packets) p (wordAt k p)
       each p l =
-          clear-numbers (h .ids-are) kind-fits (k .least) (k .most) (getD (k .words) 0 0) (k .packets) p (wordAt k p) (small 0) (small (k .stride * p))
+          clear-numbers (h .ids-are) kind-fits (k .form .least) (k .form .most) (getD (k .words) 0 0) (k .packets) p (wordAt k p) (small 0) (small (k .form .stride * p))
           (omega (arith, total-ge (faultAt k) (k .packets) p l))
 
   -- of the only packet
-  pub alone : Inside (k .stride) (k .packets) (k .words) → k .packets ≡ 1 → faultAt k 0 ≡ 0
-      → getD (k .words) 0 0 / 2 ^ 16 % 16 - k .least + 1 ≡ inOrder s (k .words) (k .packets)
+  pub alone : Inside (k .form .stride) (k .packets) (k .words) → k .packets ≡ 1 → faultAt k 0 ≡ 0
+      → getD (k .words) 0 0 / 2 ^ 16 % 16 - k .form .least + 1 ≡ inOrder s (k .words) (k .packets)
   alone inside e z =
       let c : total (countedAt k) (k .packets) ≡ getD (k .words) 0 0 / 2 ^ 16 % 16 = total-one (countedAt k) e ∙ count-first k in
-      let m : k .least * k .packets ≡ k .least = rw e (mul-one (k .least)) in
+      let m : k .form .least * k .packets ≡ k .form .least = rw e (mul-one (k .form .least)) in
       rw (← c, ← m) (no-fault inside (total-one (faultAt k) e ∙ z))

@@ -1,18 +1,17 @@
 -- What the loops over packets share. Assumes nothing.
-use mathlib.Core.Path.{_≡_, ap}
-use Prim.Native.Nat.{ℕ, _+_, _*_, _≤_, _<_}
+use mathlib.Core.Path.{_≡_, refl}
+use Prim.Native.Nat.{ℕ, suc, _+_, _*_, _≤_, _<_}
 use native.Mathlib.Nat.{mul-suc, mul-le-mul-left, le-mul-of-pos-right, mul-comm}
 use native.Mathlib.Omega.{arith}
-use mathlib.Core.Bool.{Bool, true, false, not, _||_}
+use mathlib.Core.Bool.{Bool, true, false, cond, _||_}
 use mathlib.Core.List.{List}
 use lib.Dec.{eqb, ltb}
-use borrow.Author.Tests.{lt-ltb, le-ltb, ne-eqb}
+use borrow.Author.Tests.{lt-ltb, le-ltb}
 use lib.ListN.{length}
 use mir.Syntax.{w64}
 use mir.Val.{Fits}
 use Rattle.ump.specs.Packing.{statusFor}
-use Rattle.ump.specs.Check.{firstWhere}
-use Rattle.ump.proofs.Sizes.{status-small}
+use Rattle.ump.specs.Check.{firstWhere, statusNumber}
 use Rattle.ump.proofs.First.{first-le}
 use Rattle.message.specs.Scan.{Inside}
 
@@ -51,9 +50,16 @@ module _ (count least most : ℕ) where
   pub count-in : least ≤ count → count ≤ most → (ltb count least || ltb most count) ≡ false
   count-in h k = rw (le-ltb count least h, le-ltb most count k)
 
--- a status over 3 is none that a place has
-pub over-three : (status n p : ℕ) → 3 < status → not (eqb status (statusFor n p)) ≡ true
-over-three status n p h = ap not (ne-eqb status (statusFor n p) (λ e. omega (arith, status-small n p)))
+-- the number for a wrong status, by the status that was wanted
+pub number-of-status : (n p : ℕ) → statusNumber n p ≡ 6 + statusFor n p
+unfolding statusNumber statusFor
+number-of-status n p = go (eqb n 1) (eqb p 0) (eqb (suc p) n)
+  where
+    go : (a b c : Bool) → cond a 6 (cond b 7 (cond c 9 8)) ≡ 6 + cond a 0 (cond b 1 (cond c 3 2))
+    go true b c = refl
+    go false true c = refl
+    go false false true = refl
+    go false false false = refl
 
 -- the word index of the packet that a search found, or of none, fits
 pub found-fits : {stride n : ℕ} {ws : List ℕ} (f : ℕ → Bool) → Inside stride n ws → {i : ℕ} → i ≡ firstWhere f n → Fits w64 (stride * i)

@@ -16,6 +16,7 @@ use Rattle.ump.specs.Setters.{packetOf, byteIn}
 use Rattle.ump.proofs.First.{first-is, Passed, passed-zero, passed-one, passed-here, first-cong, first-le, Side, under, over, side}
 use Rattle.ump.proofs.Sizes.{size-of-count}
 use Rattle.ump.proofs.Bytes.{length-payloadAt}
+use Rattle.message.specs.declared.scan.Form.{Form}
 use Rattle.message.specs.Scan.{Inside, Counted, sizeTo, Sized, Found, Shaped}
 use Rattle.message.proofs.Laws.{here}
 
@@ -132,23 +133,23 @@ module _ {ws : List ℕ} {n size i : ℕ} (m : Sized ws n size) (h : i < size) w
 
 -- ---- for a shape, these are the sizes of its payload
 
-module _ {stride type least most modulus : ℕ} (s : Shape) (ws : List ℕ) (n : ℕ) (h : Shaped s stride type least most modulus)
-    (inside : Inside stride n ws) (counted : Counted stride n least most ws) where
-  pub size-at : (p : ℕ) → p < n → sizeAt s ws p ≡ nibble (getD ws (stride * p) 0) 3 - least
+module _ {form : Form} (s : Shape) (ws : List ℕ) (n : ℕ) (h : Shaped s form)
+    (inside : Inside (form .stride) n ws) (counted : Counted (form .stride) n (form .least) (form .most) ws) where
+  pub size-at : (p : ℕ) → p < n → sizeAt s ws p ≡ nibble (getD ws ((form .stride) * p) 0) 3 - (form .least)
   size-at p l =
-      let c : countAt s ws p ≡ nibble (getD ws (stride * p) 0) 3 = rw (h .words-are) in
+      let c : countAt s ws p ≡ nibble (getD ws ((form .stride) * p) 0) 3 = rw (h .words-are) in
       size-of-count s (countAt s ws p) (rw (c, h .most-is) (counted p l .1)) ∙ ap₂ (λ (a b : ℕ). a - b) c (h .least-is)
 
-  pub size-to : (m : ℕ) → m ≤ n → sizeTo stride least ws m ≡ length (payload s ws m)
+  pub size-to : (m : ℕ) → m ≤ n → sizeTo (form .stride) (form .least) ws m ≡ length (payload s ws m)
   unfolding sizeTo total payload joined
   size-to zero l = refl
   size-to (suc m) l =
       let there : s .words * m + s .words ≤ length ws = rw (h .words-are) (here m inside l .there) in
       omega (arith, size-to m (omega arith), length-append (joined (payloadAt s ws) m) (payloadAt s ws m), length-payloadAt s ws m there, size-at m l)
 
-  pub found-place : {i p b : ℕ} → Found stride least ws n i p b → (p ≡ packetOf s ws n i) × (b ≡ byteIn s ws n i)
+  pub found-place : {i p b : ℕ} → Found (form .stride) (form .least) ws n i p b → (p ≡ packetOf s ws n i) × (b ≡ byteIn s ws n i)
   unfolding packetOf byteIn
   found-place {i} {p} {b} f =
       let e : p ≡ packetOf s ws n i = f .packet-is ∙ first-cong _ _ n (λ q l. ap (ltb i) (size-to (suc q) l)) in
-      let l : p ≤ n = rw (f .packet-is) (first-le (λ q. ltb i (sizeTo stride least ws (suc q))) n) in
+      let l : p ≤ n = rw (f .packet-is) (first-le (λ q. ltb i (sizeTo (form .stride) (form .least) ws (suc q))) n) in
       (e, rw (← e) (omega (arith, f .byte-is, size-to p l)))

@@ -10,6 +10,7 @@ use lib.ListN.{length, getD}
 use Rattle.refusal.specs.Answer.{Answer, gives, refused, Verdict, pass, _▷_}
 use Rattle.refusal.specs.declared.Fault.{Fault}
 use Rattle.refusal.specs.Meaning.{faultOf}
+use Rattle.message.specs.declared.scan.Form.{Form}
 use Rattle.ump.specs.Word.{nibble}
 use Rattle.ump.specs.Packet.{Shape, payload}
 use Rattle.ump.specs.Packing.{statusFor}
@@ -55,13 +56,19 @@ pub data IdModulus : ℕ → ℕ → Type 0 where
   no-id : IdModulus 0 1
   one-id : IdModulus 1 256
 
--- the numbers of a shape: words in a packet, message type, least and most count, and what the id is compared modulo
-pub record Shaped (shape : Shape) (stride type least most modulus : ℕ) : Type 0 where
-  pub words-are : shape .words ≡ stride
-  pub type-is : shape .type ≡ type
-  pub least-is : shape .bias ≡ least
-  pub most-is : shape .room + shape .bias ≡ most
-  pub ids-are : IdModulus (shape .ids) modulus
+-- the numbers are those of a shape: words in a packet, message type, least and most count, and what the id is compared modulo
+pub record Shaped (shape : Shape) (form : Form) : Type 0 where
+  pub words-are : shape .words ≡ form .stride
+  pub type-is : shape .type ≡ form .kind
+  pub least-is : shape .bias ≡ form .least
+  pub most-is : shape .room + shape .bias ≡ form .most
+  pub ids-are : IdModulus (shape .ids) (form .modulus)
+
+-- they fit a first word
+pub record Sound (form : Form) : Type 0 where
+  pub kind-fits : form .kind < 16
+  pub some-modulus : 0 < form .modulus
+  pub modulus-fits : form .modulus ≤ 256
 
 -- what a mask keeps of a first word is not the wanted number, or its count is out of range
 abbrev pub faulty : ℕ → ℕ → ℕ → ℕ → ℕ → Bool

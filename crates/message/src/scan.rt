@@ -1,21 +1,45 @@
 // The check of a message of any shape, as loops over the first words of its packets. A promise here holds of every shape whose
-// numbers are the ones given: words in a packet, message type, least and most count, octets of stream id.
+// numbers are the ones given.
 ghost use mathlib.Core.Path.{_≡_};
-ghost use Prim.Native.Nat.{_/_, _≤_, _<_};
+ghost use Prim.Native.Nat.{_/_, _<_};
 ghost use Rattle.ump.specs.Packet.{Shape};
-ghost use Rattle.ump.specs.Packing.{statusFor};
 ghost use Rattle.ump.specs.Check.{firstWhere, statusNumber, check, checkPackets};
 ghost use Rattle.refusal.specs.Number.{numberOf};
-ghost use Rattle.message.specs.Scan.{Inside, Packets, otherAt, outOfStep, countOut, faulty, one, Shaped, inOrder, Explains};
+ghost use Rattle.message.specs.Scan.{Inside, Packets, otherAt, outOfStep, countOut, faulty, one, Sound, Shaped, inOrder, Explains};
 use refusal::Fault;
 use refusal::Refusal;
+
+// The numbers of a shape: words in a packet, message type, least and most count, and what the stream id is compared modulo.
+pub(crate) struct Form {
+    pub(crate) stride: usize,
+    pub(crate) kind: u32,
+    pub(crate) least: u32,
+    pub(crate) most: u32,
+    pub(crate) modulus: u32,
+}
+
+pub(crate) const SYSEX8: Form = Form {
+    stride: 4,
+    kind: 5,
+    least: 1,
+    most: 14,
+    modulus: 256,
+};
+
+pub(crate) const SYSEX7: Form = Form {
+    stride: 2,
+    kind: 3,
+    least: 0,
+    most: 6,
+    modulus: 1,
+};
 
 // How many packets a message has; none where Long, Length, Short or Ragged refuses it.
 pub(crate) fn packets_of(lent: usize, length: usize, stride: usize) -> usize
     requires { ⌜ 0 < stride ⌝ }
     ensures { λ r. ⌜ Packets lent length stride r ⌝ }
 {
-    if lent > 16384 {
+    if lent > layout::MOST_WORDS {
         return 0;
     }
     if length > lent {
@@ -55,35 +79,15 @@ fn first_other(
     at
 }
 
-// The status of packet `packet` of `packets`: complete; start, continue, end.
-pub(crate) fn status_for(packets: usize, packet: usize) -> u32
-    requires { ⌜ packet < packets ⌝ }
-    ensures { λ r. ⌜ r ≡ statusFor packets packet ⌝ }
-{
-    if packets == 1 {
-        0
-    } else if packet == 0 {
-        1
-    } else if packet + 1 == packets {
-        3
-    } else {
-        2
-    }
-}
-
-// Complete, Begin, End, Continue: what a wrong status of packet `packet` is.
+// Complete, Begin, Continue, End: what a wrong status of packet `packet` is.
 fn status_refusal(packets: usize, packet: usize) -> Refusal
-    requires { ⌜ packet < packets ⌝ }
     ensures { λ r. ⌜ numberOf r ≡ statusNumber packets packet ⌝ }
 {
-    if packets == 1 {
-        Refusal::Complete
-    } else if packet == 0 {
-        Refusal::Begin
-    } else if packet + 1 == packets {
-        Refusal::End
-    } else {
-        Refusal::Continue
+    match layout::status_for(packets, packet) {
+        0 => Refusal::Complete,
+        1 => Refusal::Begin,
+        2 => Refusal::Continue,
+        _ => Refusal::End,
     }
 }
 
@@ -93,20 +97,16 @@ fn first_out_of_step(words: &[u32], stride: usize, packets: usize) -> usize
     ensures { λ r. ⌜ r ≡ firstWhere (outOfStep stride (now (words .entry)) packets) packets ⌝ }
 {
     let mut packet = 0;
-    'packets: while packet < packets {
-        let status = words[stride * packet] / 0x10_0000 % 16;
-        let wanted = status_for(packets, packet);
-        match status {
-            0..=3 => {
-                if status != wanted {
-                    break 'packets;
-                }
-            }
-            _ => break 'packets,
+    let at = loop {
+        if packet == packets {
+            break packets;
+        }
+        if layout::status_of(words[stride * packet]) != layout::status_for(packets, packet) {
+            break packet;
         }
         packet += 1;
-    }
-    packet
+    };
+    at
 }
 
 // The first packet whose count is out of range; their number if there is none.
@@ -119,7 +119,7 @@ fn first_bad_count(words: &[u32], stride: usize, packets: usize, least: u32, mos
         if packet == packets {
             break packets;
         }
-        let count = words[stride * packet] / 0x1_0000 % 16;
+        let count = layout::count_of(words[stride * packet]) as u32;
         if count < least {
             break packet;
         }
@@ -132,19 +132,12 @@ fn first_bad_count(words: &[u32], stride: usize, packets: usize, least: u32, mos
 }
 
 // The fault of packets that do not all pass: Type; Complete, Begin, Continue and End in one walk; Count; Group; Stream.
-fn find_fault(
-    words: &[u32],
-    stride: usize,
-    packets: usize,
-    kind: u32,
-    least: u32,
-    most: u32,
-    modulus: u32,
-) -> Fault
-    requires { ⌜ (Inside stride packets (now words)) × (0 < packets) × (0 < modulus) ⌝ }
-    ensures { λ r. ⌜ ((s : Shape) → Shaped s stride kind least most modulus → Explains (checkPackets s (now (words .entry)) packets) r) ⌝ }
+fn find_fault(words: &[u32], packets: usize, form: Form) -> Fault
+    requires { ⌜ (Inside (form .stride) packets (now words)) × (0 < packets) × (0 < form .modulus) ⌝ }
+    ensures { λ r. ⌜ ((s : Shape) → Shaped s form → Explains (checkPackets s (now (words .entry)) packets) r) ⌝ }
 {
-    let foreign = first_other(words, stride, packets, 28, 16, kind);
+    let stride = form.stride;
+    let foreign = first_other(words, stride, packets, 28, 16, form.kind);
     if foreign < packets {
         return Fault {
             refusal: Refusal::Type,
@@ -158,42 +151,35 @@ fn find_fault(
             place: stride * step,
         };
     }
-    let count = first_bad_count(words, stride, packets, least, most);
+    let count = first_bad_count(words, stride, packets, form.least, form.most);
     if count < packets {
         return Fault {
             refusal: Refusal::Count,
             place: stride * count,
         };
     }
-    let first = words[0];
-    let group = first_other(words, stride, packets, 24, 16, first / 0x100_0000 % 16);
+    let value = layout::group_of(words[0]) as u32;
+    let group = first_other(words, stride, packets, 24, 16, value);
     if group < packets {
         return Fault {
             refusal: Refusal::Group,
             place: stride * group,
         };
     }
+    let modulus = form.modulus;
+    let value = layout::id_of(words[0]) as u32 % modulus;
     Fault {
         refusal: Refusal::Stream,
-        place: stride * first_other(words, stride, packets, 8, modulus, first / 256 % modulus),
+        place: stride * first_other(words, stride, packets, 8, modulus, value),
     }
 }
 
 // Why a message is refused, by the packets that its length makes: Long, Length, Short, Ragged; then the fault of its packets.
-pub(crate) fn why(
-    words: &[u32],
-    length: usize,
-    packets: usize,
-    stride: usize,
-    kind: u32,
-    least: u32,
-    most: u32,
-    modulus: u32,
-) -> Fault
-    requires { ⌜ (0 < stride) × (packets ≡ length / stride) × (0 < modulus) ⌝ }
-    ensures { λ r. ⌜ ((s : Shape) → Shaped s stride kind least most modulus → Explains (check s (now (words .entry)) length) r) ⌝ }
+pub(crate) fn why(words: &[u32], length: usize, packets: usize, form: Form) -> Fault
+    requires { ⌜ (0 < form .stride) × (packets ≡ length / form .stride) × (0 < form .modulus) ⌝ }
+    ensures { λ r. ⌜ ((s : Shape) → Shaped s form → Explains (check s (now (words .entry)) length) r) ⌝ }
 {
-    if words.len() > 16384 {
+    if words.len() > layout::MOST_WORDS {
         return Fault {
             refusal: Refusal::Long,
             place: 0,
@@ -205,19 +191,19 @@ pub(crate) fn why(
             place: 0,
         };
     }
-    if length < stride {
+    if length < form.stride {
         return Fault {
             refusal: Refusal::Short,
             place: 0,
         };
     }
-    if stride * packets != length {
+    if form.stride * packets != length {
         return Fault {
             refusal: Refusal::Ragged,
             place: 0,
         };
     }
-    find_fault(words, stride, packets, kind, least, most, modulus)
+    find_fault(words, packets, form)
 }
 
 // Whether a first word is at fault: 1 if what the mask keeps of it is not the wanted number, or its count is out of range; else 0.
@@ -227,7 +213,7 @@ fn at_fault(word: u32, mask: u32, wanted: u32, least: u32, most: u32) -> u32
     if word & mask != wanted {
         return 1;
     }
-    let count = word / 0x1_0000 % 16;
+    let count = layout::count_of(word) as u32;
     if count < least {
         return 1;
     }
@@ -239,44 +225,36 @@ fn at_fault(word: u32, mask: u32, wanted: u32, least: u32, most: u32) -> u32
 
 // One more than the payload size of packets that are all in order, else 0. One pass that adds up faults and counts, with no way
 // out of its loop; the first packet and the last, which have another status, are looked at apart.
-pub(crate) fn in_order(
-    words: &[u32],
-    stride: usize,
-    packets: usize,
-    kind: u32,
-    least: u32,
-    most: u32,
-    modulus: u32,
-) -> usize
-    requires { ⌜ (Inside stride packets (now words)) × (0 < packets) × (kind < 16) × (0 < modulus) × (modulus ≤ 256) ⌝ }
-    ensures { λ r. ⌜ ((shape : Shape) → Shaped shape stride kind least most modulus → r ≡ inOrder shape (now (words .entry)) packets) ⌝ }
+pub(crate) fn in_order(words: &[u32], packets: usize, form: Form) -> usize
+    requires { ⌜ (Inside (form .stride) packets (now words)) × (0 < packets) × Sound form ⌝ }
+    ensures { λ r. ⌜ ((shape : Shape) → Shaped shape form → r ≡ inOrder shape (now (words .entry)) packets) ⌝ }
 {
     let first = words[0];
-    let mask = 0xFFF0_0000 + (modulus - 1) * 0x100;
-    let base = kind * 0x1000_0000
-        + first / 0x100_0000 % 16 * 0x100_0000
+    let mask = 0xFFF0_0000 + (form.modulus - 1) * 0x100;
+    let base = form.kind * 0x1000_0000
+        + layout::group_of(first) as u32 * 0x100_0000
         + (first & mask) % 0x1_0000;
-    let start = base + status_for(packets, 0) * 0x10_0000;
-    if at_fault(first, mask, start, least, most) != 0 {
+    let start = base + layout::status_for(packets, 0) as u32 * 0x10_0000;
+    if at_fault(first, mask, start, form.least, form.most) != 0 {
         return 0;
     }
-    let mut counts = first / 0x1_0000 % 16;
+    let mut counts = layout::count_of(first) as u32;
     let last = packets - 1;
     if last == 0 {
-        return (counts - least) as usize + 1;
+        return (counts - form.least) as usize + 1;
     }
-    let end = words[stride * last];
-    let mut bad = at_fault(end, mask, base + 0x30_0000, least, most);
-    counts += end / 0x1_0000 % 16;
+    let end = words[form.stride * last];
+    let mut bad = at_fault(end, mask, base + 0x30_0000, form.least, form.most);
+    counts += layout::count_of(end) as u32;
     let mut packet = 1;
     while packet < last {
-        let word = words[stride * packet];
-        bad += at_fault(word, mask, base + 0x20_0000, least, most);
-        counts += word / 0x1_0000 % 16;
+        let word = words[form.stride * packet];
+        bad += at_fault(word, mask, base + 0x20_0000, form.least, form.most);
+        counts += layout::count_of(word) as u32;
         packet += 1;
     }
     if bad != 0 {
         return 0;
     }
-    counts as usize - least as usize * packets + 1
+    counts as usize - form.least as usize * packets + 1
 }

@@ -4,6 +4,7 @@ ghost use Rattle.ump.specs.Packet.{sysex7};
 ghost use Rattle.ump.specs.Check.{check, checked};
 ghost use Rattle.message.specs.Meaning.{checkMeaning7};
 ghost use Rattle.message.specs.Scan.{sizeFound, Explains};
+use crate::scan::SYSEX7;
 use crate::scan::in_order;
 use crate::scan::packets_of;
 use refusal::Fault;
@@ -29,14 +30,14 @@ fn size_found(words: &[u32], length: usize) -> usize
     if packets == 0 {
         return 0;
     }
-    in_order(words, 2, packets, 3, 0, 6, 1)
+    in_order(words, packets, SYSEX7)
 }
 
 // Why the message is refused.
 fn why(words: &[u32], length: usize) -> Fault
     ensures { λ r. ⌜ Explains (check sysex7 (now (words .entry)) length) r ⌝ }
 {
-    crate::scan::why(words, length, length / 2, 2, 3, 0, 6, 1)
+    crate::scan::why(words, length, length / 2, SYSEX7)
 }
 
 // Checks the message in the first `length` of the words lent: refusals 1 to 11, each over all packets before the next.
@@ -49,7 +50,7 @@ pub fn check(words: &[u32], length: usize) -> Checked
     }
     let first = words[0];
     Checked::Message(Summary {
-        group: (first / 0x100_0000 % 16) as u8,
+        group: layout::group_of(first),
         size: found - 1,
         words: length,
     })

@@ -6,6 +6,7 @@ ghost use Rattle.ump.specs.Check.{check, checked};
 ghost use Rattle.ump.specs.Setters.{getByte, copyPayload, setGroup, setId, setByte};
 ghost use Rattle.message.specs.Meaning.{checkMeaning8, copiedMeaning};
 ghost use Rattle.message.specs.Scan.{sizeFound, Explains};
+use crate::scan::SYSEX8;
 use crate::scan::in_order;
 use crate::scan::packets_of;
 use refusal::ByteRead;
@@ -35,14 +36,14 @@ fn size_found(words: &[u32], length: usize) -> usize
     if packets == 0 {
         return 0;
     }
-    in_order(words, 4, packets, 5, 1, 14, 256)
+    in_order(words, packets, SYSEX8)
 }
 
 // Why the message is refused.
 fn why(words: &[u32], length: usize) -> Fault
     ensures { λ r. ⌜ Explains (check sysex8 (now (words .entry)) length) r ⌝ }
 {
-    crate::scan::why(words, length, length / 4, 4, 5, 1, 14, 256)
+    crate::scan::why(words, length, length / 4, SYSEX8)
 }
 
 // Checks the message in the first `length` of the words lent: refusals 1 to 12, each over all packets before the next.
@@ -55,8 +56,8 @@ pub fn check(words: &[u32], length: usize) -> Checked
     }
     let first = words[0];
     Checked::Message(Summary {
-        group: (first / 0x100_0000 % 16) as u8,
-        id: (first / 256 % 256) as u8,
+        group: layout::group_of(first),
+        id: layout::id_of(first),
         size: found - 1,
         words: length,
     })

@@ -18,6 +18,6 @@ check-spec =
     (λ c κs. search needs)
     (λ c. let t = c .before in checked-fault sysex7 _ _ (c .why .ensures (found-none sysex7 _ _ (t .before .size-found .ensures) (t .if1 .taken))))
     (λ c. taken-begins sysex7 _ _ (message (c .before)))
+    (λ c κs. search needs)
     (λ c. search needs)
-    (λ c. search needs)
-    (λ c. checked-size sysex7 _ _ (message (c .before))))
+    (λ c. rw (c .group-of .ensures) (checked-size sysex7 _ _ (message (c .before .before)))))

@@ -3,8 +3,7 @@ ghost use mathlib.Core.Path.{_≡_};
 ghost use Prim.Native.Nat.{_-_, _/_, _<_};
 ghost use lib.ListN.{length};
 ghost use denote.Ref.{now};
-ghost use Rattle.ump.specs.Word.{nibble, octet as octetOf};
-ghost use Rattle.ump.specs.Packet.{sysex8, sizeOf, sizeAt, byteAt};
+ghost use Rattle.ump.specs.Packet.{sysex8, sizeAt};
 ghost use Rattle.ump.specs.Reader.{nth as nthOf, bytesRemaining, reader as readerOf};
 ghost use Rattle.reader.specs.Meaning.{cursorMeaning, stepMeaning, readMeaning, openMeaning};
 ghost use Rattle.reader.specs.Held.{readerAt, cursorOf, readOn};
@@ -30,40 +29,14 @@ pub struct Read {
     pub cursor: Cursor,
 }
 
-// The payload size of a packet, from its first word: a count of 0 or 15 is an empty packet.
-fn size(word: u32) -> usize
-    ensures { λ r. ⌜ r ≡ sizeOf sysex8 (nibble word 3) ⌝ }
-{
-    let count = word / 65536 % 16;
-    match count {
-        1..=14 => (count - 1) as usize,
-        _ => 0,
-    }
-}
-
-// How many bytes of a packet stand from a byte on: none where the byte is at or past the packet's size.
+// How many bytes of a packet stand from a byte on: none where the byte is at or past the packet's size, and a count of 0 or 15 is an
+// empty packet.
 fn standing(words: &[u32], packet: usize, byte: usize) -> usize
     requires { ⌜ packet < length (now words) / 4 ⌝ }
     ensures { λ r. ⌜ r ≡ sizeAt sysex8 (now (words .entry)) packet - byte ⌝ }
 {
-    let size = size(words[4 * packet]);
+    let size = layout::sysex8_size(layout::count_of(words[4 * packet]));
     if byte < size { size - byte } else { 0 }
-}
-
-// Octet 0 to 3 of a word, 0 the most significant.
-fn octet(word: u32, place: usize) -> u8
-    requires { ⌜ place < 4 ⌝ }
-    ensures { λ r. ⌜ r ≡ octetOf word place ⌝ }
-{
-    ((word >> (24 - 8 * place)) % 256) as u8
-}
-
-// Payload byte 0 to 12 of a packet.
-fn byte_at(words: &[u32], packet: usize, byte: usize) -> u8
-    requires { ⌜ (packet < length (now words) / 4) × (byte < 13) ⌝ }
-    ensures { λ r. ⌜ r ≡ byteAt sysex8 (now (words .entry)) packet byte ⌝ }
-{
-    octet(words[4 * packet + (byte + 3) / 4], (byte + 3) % 4)
 }
 
 // Skip-then-read. Empty packets are passed, words short of a packet are ignored, and after the end it answers ended for ever.
@@ -81,7 +54,7 @@ pub fn nth(words: &[u32], cursor: Cursor, skip: usize) -> Read
             if ahead < here {
                 let at = byte + ahead;
                 return Read {
-                    step: Step::Byte(byte_at(words, packet, at)),
+                    step: Step::Byte(layout::octet_of(words[4 * packet + (at + 3) / 4], at + 3)),
                     cursor: Cursor {
                         packet,
                         byte: at + 1,

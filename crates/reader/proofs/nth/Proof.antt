@@ -1,7 +1,8 @@
 -- `reader::nth` meets its contract. The loop's invariant: `ahead` places on from (packet, byte) is `skip` places on from the cursor.
 -- The measure is the packets left. Assumes nothing.
 use mathlib.Core.Path.{_≡_, refl, sym}
-use Prim.Native.Nat.{_+_, _-_}
+use borrow.Author.Needs.{needs}
+use Prim.Native.Nat.{_+_, _-_, _<_}
 use native.Mathlib.Omega.{arith}
 use lib.ListN.{drop}
 use Rattle.ump.specs.Packet.{sysex8, countAt, byteAt}
@@ -19,27 +20,19 @@ Inv-loop words skip packets remaining packet₀ byte₀ ahead₀ packet byte ahe
 abbrev μ-loop : tie.MeasureT-loop
 μ-loop words skip packets remaining packet₀ byte₀ ahead₀ packet byte ahead = packets - packet
 
-add-at : tie.Need-add-at Inv-loop μ-loop
-add-at c =
+-- the byte that is read is one of the 13 of a packet
+inner : (c : tie.Then2 Inv-loop μ-loop) → c .before .before .before .loop .byte + c .before .before .before .loop .ahead < 13
+inner c =
     let a = c .before .before .before .before .before .before .args in
     omega (arith, size-small sysex8 (countAt sysex8 (a .words .now) (c .before .before .before .loop .packet)))
-
-byte-at-requires : tie.Need-byte-at-requires Inv-loop μ-loop
-byte-at-requires c κs =
-    let a = c .before .before .before .before .before .before .args in
-    omega (arith, size-small sysex8 (countAt sysex8 (a .words .now) (c .before .before .before .loop .packet)))
-
-add-t16 : tie.Need-add-t16 Inv-loop μ-loop
-add-t16 c =
-    let a = c .before .before .before .before .before .before .before .args in
-    omega (arith, size-small sysex8 (countAt sysex8 (a .words .now) (c .before .before .before .before .loop .packet)))
 
 returns : tie.Need-returns Inv-loop μ-loop
 returns c =
-    let a = c .before .before .before .before .before .before .before .args in
-    let l = c .before .before .before .before .loop in
-    let k = c .before .before .standing in
-    let e : c .byte-at .result ≡ byteAt sysex8 (a .words .now) (l .packet) (l .byte + l .ahead) = c .byte-at .ensures in
+    let t = c .before .before in
+    let a = t .before .before .before .before .before .before .args in
+    let l = t .before .before .before .loop in
+    let k = t .before .standing in
+    let e : c .octet-of .result ≡ byteAt sysex8 (a .words .now) (l .packet) (l .byte + l .ahead) = c .octet-of .ensures in
     rw e
     (found sysex8 (a .words .now) (l .packet) (l .byte) (k .result) (omega arith) (k .ensures) (l .ahead) (cursorMeaning (a .cursor)) (a .skip)
     (omega arith) (omega arith) (l .inv))
@@ -70,9 +63,15 @@ nth-spec =
     μ-loop
     (λ c. refl)
     (λ c κs. omega arith)
-    add-at
-    byte-at-requires
-    add-t16
+    (λ c. omega (arith, inner c))
+    (λ c. omega arith)
+    (λ c. omega (arith, inner c))
+    (λ c. omega (arith, inner c))
+    (λ c. omega (arith, inner c))
+    (λ c. omega (arith, inner (c .before)))
+    (λ c. omega (arith, inner (c .before)))
+    (λ c κs. search needs)
+    (λ c. omega (arith, inner (c .before .before)))
     (λ c. omega arith)
     (λ c. omega arith)
     returns

@@ -7,6 +7,7 @@ use native.Mathlib.Omega.{arith}
 use lib.ListN.{length}
 use borrow.Author.Tests.{lt-ltb, le-ltb, eq-eqb, ne-eqb}
 use Rattle.refusal.specs.Answer.{refused}
+use Rattle.ump.specs.Limits.{mostWords}
 use Rattle.ump.specs.Packet.{Shape, payload}
 use Rattle.ump.specs.Check.{check, checkPackets, payloadOf}
 use Rattle.message.specs.declared.scan.Form.{Form}
@@ -42,7 +43,7 @@ module _ {form : Form} (s : Shape) (h : Shaped s form) (ws : List ℕ) (len : �
   check-framed g =
       let f = of-shape g in
       rw (
-        le-ltb 16384 (length ws) (f .few),
+        le-ltb mostWords (length ws) (f .few),
         le-ltb (length ws) len (f .inside),
         le-ltb len (s .words) (f .long-enough),
         eq-eqb (len % s .words) 0 (f .ragged-not),
@@ -53,21 +54,21 @@ module _ {form : Form} (s : Shape) (h : Shaped s form) (ws : List ℕ) (len : �
   payload-framed f = ap (payload s ws) (sym (of-shape f .packets))
 
   -- each of the four refusals
-  pub refuse-long : 16384 < length ws → refused 1 0 ≡ check s ws len
+  pub refuse-long : mostWords < length ws → refused 1 0 ≡ check s ws len
   unfolding check
-  refuse-long a = rw (lt-ltb 16384 (length ws) a)
+  refuse-long a = rw (lt-ltb mostWords (length ws) a)
 
-  module _ (a : length ws ≤ 16384) where
+  module _ (a : length ws ≤ mostWords) where
     pub refuse-length : length ws < len → refused 2 0 ≡ check s ws len
     unfolding check
-    refuse-length b = rw (le-ltb 16384 (length ws) a, lt-ltb (length ws) len b)
+    refuse-length b = rw (le-ltb mostWords (length ws) a, lt-ltb (length ws) len b)
 
     module _ (b : len ≤ length ws) where
       pub refuse-short : len < (form .stride) → refused 3 0 ≡ check s ws len
       unfolding check
-      refuse-short c = rw (le-ltb 16384 (length ws) a, le-ltb (length ws) len b, lt-ltb len (s .words) (rw (h .words-are) c))
+      refuse-short c = rw (le-ltb mostWords (length ws) a, le-ltb (length ws) len b, lt-ltb len (s .words) (rw (h .words-are) c))
 
       pub refuse-ragged : (form .stride) ≤ len → (len % (form .stride) ≡ 0 → ⊥) → refused 4 0 ≡ check s ws len
       unfolding check
       refuse-ragged c d =
-          rw (le-ltb 16384 (length ws) a, le-ltb (length ws) len b, le-ltb len (s .words) (rw (h .words-are) c), ne-eqb (len % s .words) 0 (rw (h .words-are) d))
+          rw (le-ltb mostWords (length ws) a, le-ltb (length ws) len b, le-ltb len (s .words) (rw (h .words-are) c), ne-eqb (len % s .words) 0 (rw (h .words-are) d))

@@ -10,6 +10,7 @@ use borrow.Author.Tests.{lt-ltb, le-ltb}
 use lib.ListN.{length}
 use mir.Syntax.{w64}
 use mir.Val.{Fits}
+use Rattle.ump.specs.Limits.{mostWords}
 use Rattle.ump.specs.Packing.{statusFor}
 use Rattle.ump.specs.Check.{firstWhere, statusNumber}
 use Rattle.ump.proofs.First.{first-le}
@@ -19,8 +20,8 @@ use Rattle.message.specs.Scan.{Inside}
 pub record Here (stride p : ℕ) (ws : List ℕ) : Type 0 where
   pub index : stride * p < length ws
   pub there : stride * p + stride ≤ length ws
-  pub few : stride * p + stride ≤ 16384
-  pub number : p < 16384
+  pub few : stride * p + stride ≤ mostWords
+  pub number : p < mostWords
   pub fits : Fits w64 (stride * p)
   pub bytes-fit : Fits w64 (stride * p * 4)
 
@@ -28,7 +29,7 @@ pub here : {stride n : ℕ} {ws : List ℕ} (p : ℕ) → Inside stride n ws →
 here {stride} {n} {ws} p h k =
     let l : stride * p + stride ≤ stride * n = rw mul-suc at (mul-le-mul-left stride k) in
     let i : stride * p < length ws = omega (arith, h .there, h .some-words) in
-    let f : stride * p < 16384 = omega (arith, h .few, h .some-words) in
+    let f : stride * p < mostWords = omega (arith, h .few, h .some-words) in
     record {
       index = i;
       there = omega (arith, h .there);

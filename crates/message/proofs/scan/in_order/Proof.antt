@@ -5,6 +5,7 @@ use Prim.Native.Nat.{ℕ, _+_, _-_, _*_, _%_, _^_, _≤_, _<_}
 use native.Mathlib.Omega.{arith}
 use lib.Bits.{bitAnd}
 use lib.ListN.{getD}
+use Rattle.ump.specs.Limits.{mostWords}
 use Rattle.ump.specs.Edits.{total}
 use Rattle.ump.proofs.Sizes.{status-small}
 use Rattle.ump.proofs.Moving.{total-ge}
@@ -134,7 +135,7 @@ returns-4 c s h =
 
 -- the counts reach what is taken away, and are few
 reach : (c : tie.Else3 Inv-loop μ-loop) → let l = c .before .before in
-    (start (begun l) .args .form .least * start (begun l) .args .packets ≤ l .loop .counts) × (l .loop .counts ≤ 15 * 16384)
+    (start (begun l) .args .form .least * start (begun l) .args .packets ≤ l .loop .counts) × (l .loop .counts ≤ 15 * mostWords)
 reach c =
     let e = c .before in
     let l = e .before in (

@@ -15,7 +15,7 @@ use Rattle.store.specs.Places.{recordAt, nextAt, recordsFrom}
 use Rattle.store.specs.Places.{Ordered}
 use Rattle.store.proofs.Parts.{edit-inside, data-step, data-stop, patches-data, patches-edit, patches-stop}
 use Rattle.chain.specs.Restore.{outside}
-use Rattle.chain.specs.Laying.{Past, Sized, Becomes}
+use Rattle.chain.specs.Laying.{Past, DataSized, Becomes}
 use Rattle.chain.specs.declared.edits.Reached.{Reached}
 use Rattle.chain.proofs.Outside.{or-false}
 use Rattle.chain.proofs.Replay.{replay, replaced-is}
@@ -48,7 +48,7 @@ counting-more {store} {at} {place} {size} l d count {next} b k q =
     }
 
 pub counting-end : {store : List ℕ} {at : ℕ} {reached : Reached} → Counting store at (reached .at) (reached .size) → isData (getD store (reached .at) 0) ≡ false
-    → Sized store at reached
+    → DataSized store at reached
 counting-end {store} {at} {reached} l d =
     record {
       size = omega (arith, l .bytes, ap length (data-stop store (reached .at) d));
@@ -113,7 +113,7 @@ module _ {store : List ℕ} {at size place end done : ℕ} (l : Putting store at
     pub edit-early : end ≤ from
     edit-early = here .early
 
-    pub putting-more : {reached : Reached} → Sized store next reached → {m k : ℕ} → m ≡ from → k ≡ to
+    pub putting-more : {reached : Reached} → DataSized store next reached → {m k : ℕ} → m ≡ from → k ≡ to
         → Putting store at size (reached .at) k (done + (m - end + reached .size))
     unfolding replay
     putting-more {reached} r {m} {k} q p =

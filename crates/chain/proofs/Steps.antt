@@ -12,7 +12,7 @@ use Rattle.store.specs.Store.{isWhole, isDump, isData, Dump, delta, dumpOf, dum
 use Rattle.store.specs.Places.{recordAt, nextAt, recordsFrom, dumpAt}
 use Rattle.store.specs.declared.finding.Found.{Found}
 use Rattle.store.specs.declared.finding.Found.the-variants as found
-use Rattle.store.specs.Meaning.{Stands, FoundInside}
+use Rattle.store.specs.Meaning.{FoundDump, FoundInside}
 use Rattle.store.proofs.Records.{data-low, body-byte, body-pair}
 use Rattle.store.proofs.Dumps.{dump-small}
 use Rattle.chain.specs.Walk.{baseOf}
@@ -100,7 +100,7 @@ module _ (tooLong : ℕ → Bool) (store : List ℕ) (left n : ℕ) (h : left �
       step-gives g = ap (rebuilt tooLong (patchesIn (recordsFrom store (nextAt store at)))) (sym g ∙ ap (restored tooLong dumps (left - 1)) w) ∙ step-delta e
 
 -- what was found stands there
-pub found-at : (store : List ℕ) {r : Found} {at : ℕ} → Stands store r → r ≡ found.At at → (at < length store) × (isDump (getD store at 0) ≡ true)
+pub found-at : (store : List ℕ) {r : Found} {at : ℕ} → FoundDump store r → r ≡ found.At at → (at < length store) × (isDump (getD store at 0) ≡ true)
 found-at store l e = rw e at l
 
 pub found-within : (store : List ℕ) {r : Found} {at : ℕ} → FoundInside store r → r ≡ found.At at → at < length store

@@ -45,7 +45,7 @@ wholeAt store at =
 -- ---- measuring
 
 -- the data from a place on has so many bytes, and is passed
-pub record Sized (store : List ℕ) (at : ℕ) (reached : Reached) : Type 0 where
+pub record DataSized (store : List ℕ) (at : ℕ) (reached : Reached) : Type 0 where
   pub size : reached .size ≡ length (dataIn (recordsFrom store at))
   pub past : Past store at (reached .at)
   pub fewer : at + reached .size ≤ reached .at

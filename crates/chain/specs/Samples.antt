@@ -15,12 +15,12 @@ use Rattle.store.specs.Samples.{one, two, bare, edit}
 use Rattle.chain.specs.Restore.{roomed, outside, rebuilt, restored, laidOut, restore, sizes, described, describe}
 
 -- so many words, none of them zero
-abbrev pub lent : ℕ → List ℕ
-lent n = replicate n 7
+abbrev pub sevens : ℕ → List ℕ
+sevens n = replicate n 7
 
 -- a refusal, with the words as they were
 abbrev pub refuses : ℕ → ℕ → Answer ℕ × List ℕ
-refuses number n = (refused number 0, lent n)
+refuses number n = (refused number 0, sevens n)
 
 -- dump 3: over dump 2, 1..2 by 44
 abbrev pub three : List ℕ
@@ -47,37 +47,37 @@ message1 = 0x52030741 ∷ 0x42000000 ∷ 0 ∷ 0 ∷ []
 
 pub record Samples : Type 0 where
   -- a whole dump, all words past it zero; a delta, whose base stands behind it; a delta on a delta
-  pub whole-dump : restore one 1 (lent 6) ≡ (gives 4, message1 ++ (0 ∷ 0 ∷ []))
-  pub one-delta : restore (two ++ one) 2 (lent 4) ≡ (gives 4, 0x52040741 ∷ 0x43420000 ∷ 0 ∷ 0 ∷ [])
-  pub two-deltas : restore (three ++ (two ++ one)) 3 (lent 4) ≡ (gives 4, 0x52040741 ∷ 0x44420000 ∷ 0 ∷ 0 ∷ [])
+  pub whole-dump : restore one 1 (sevens 6) ≡ (gives 4, message1 ++ (0 ∷ 0 ∷ []))
+  pub one-delta : restore (two ++ one) 2 (sevens 4) ≡ (gives 4, 0x52040741 ∷ 0x43420000 ∷ 0 ∷ 0 ∷ [])
+  pub two-deltas : restore (three ++ (two ++ one)) 3 (sevens 4) ≡ (gives 4, 0x52040741 ∷ 0x44420000 ∷ 0 ∷ 0 ∷ [])
   -- a delta without edits is its base
-  pub no-edits : restore (one ++ bare 9 1) 9 (lent 4) ≡ (gives 4, message1)
+  pub no-edits : restore (one ++ bare 9 1) 9 (sevens 4) ≡ (gives 4, message1)
   -- Missing: the number asked for, one above 65,535, a base; in the empty store
-  pub missing : (restore one 5 (lent 4) ≡ refuses 24 4)
-      × (restore one 65537 (lent 4) ≡ refuses 24 4)
-      × (restore two 2 (lent 4) ≡ refuses 24 4)
-      × (restore [] 1 (lent 4) ≡ refuses 24 4)
+  pub missing : (restore one 5 (sevens 4) ≡ refuses 24 4)
+      × (restore one 65537 (sevens 4) ≡ refuses 24 4)
+      × (restore two 2 (sevens 4) ≡ refuses 24 4)
+      × (restore [] 1 (sevens 4) ≡ refuses 24 4)
   -- Ring: of one, of two, of three; a walk into one that does not hold its start
-  pub ring : (restore (bare 3 3) 3 (lent 4) ≡ refuses 25 4)
-      × (restore (bare 3 4 ++ (one ++ bare 4 3)) 3 (lent 4) ≡ refuses 25 4)
-      × (restore (bare 3 4 ++ (bare 4 5 ++ bare 5 3)) 3 (lent 4) ≡ refuses 25 4)
-      × (restore (bare 2 3 ++ (bare 3 4 ++ bare 4 3)) 2 (lent 4) ≡ refuses 25 4)
+  pub ring : (restore (bare 3 3) 3 (sevens 4) ≡ refuses 25 4)
+      × (restore (bare 3 4 ++ (one ++ bare 4 3)) 3 (sevens 4) ≡ refuses 25 4)
+      × (restore (bare 3 4 ++ (bare 4 5 ++ bare 5 3)) 3 (sevens 4) ≡ refuses 25 4)
+      × (restore (bare 2 3 ++ (bare 3 4 ++ bare 4 3)) 2 (sevens 4) ≡ refuses 25 4)
   -- a ring that is off the walk refuses nobody
-  pub ring-beside : restore (one ++ bare 3 3) 1 (lent 4) ≡ (gives 4, message1)
+  pub ring-beside : restore (one ++ bare 3 3) 1 (sevens 4) ≡ (gives 4, message1)
   -- 13 bytes, edits +5 then -5, in 4 words: Room is judged on the result, never in the middle of a delta's edits
-  pub in-the-middle : restore growing 2 (lent 4)
+  pub in-the-middle : restore growing 2 (sevens 4)
       ≡ (gives 4, 0x500E0014 ∷ 0x15161718 ∷ 0x01020304 ∷ 0x05060708 ∷ [])
   -- Room of a base, though its delta itself would have room; Room of no words; Range, of an edit past its base, and of a reversed one
-  pub room : (restore shorter 2 (lent 7) ≡ refuses 14 7) × (restore one 1 [] ≡ refuses 14 0)
-  pub range : (restore (one ++ (bare 2 1 ++ edit 2 3)) 2 (lent 4) ≡ refuses 13 4)
-      × (restore (one ++ (bare 2 1 ++ edit 2 1)) 2 (lent 4) ≡ refuses 13 4)
+  pub room : (restore shorter 2 (sevens 7) ≡ refuses 14 7) × (restore one 1 [] ≡ refuses 14 0)
+  pub range : (restore (one ++ (bare 2 1 ++ edit 2 3)) 2 (sevens 4) ≡ refuses 13 4)
+      × (restore (one ++ (bare 2 1 ++ edit 2 1)) 2 (sevens 4) ≡ refuses 13 4)
   -- a base's Room before its delta's Range, a base's Range before its delta's Room; Missing before a delta's Range
-  pub order : (restore (shorter ++ (bare 3 1 ++ edit 9 99)) 3 (lent 4) ≡ refuses 14 4)
-      × (restore (one ++ (bare 2 1 ++ (edit 2 3 ++ (bare 3 2 ++ (edit 0 0 ++ full))))) 3 (lent 4) ≡ refuses 13 4)
-      × (restore (two ++ (bare 3 2 ++ edit 9 9)) 3 (lent 4) ≡ refuses 24 4)
+  pub order : (restore (shorter ++ (bare 3 1 ++ edit 9 99)) 3 (sevens 4) ≡ refuses 14 4)
+      × (restore (one ++ (bare 2 1 ++ (edit 2 3 ++ (bare 3 2 ++ (edit 0 0 ++ full))))) 3 (sevens 4) ≡ refuses 13 4)
+      × (restore (two ++ (bare 3 2 ++ edit 9 9)) 3 (sevens 4) ≡ refuses 24 4)
   -- Format and Twice, of dumps off the walk too
-  pub unsound : (restore (one ++ (0x04 ∷ [])) 1 (lent 4) ≡ refuses 21 4)
-      × (restore (one ++ (bare 2 1 ++ bare 2 1)) 1 (lent 4) ≡ refuses 22 4)
+  pub unsound : (restore (one ++ (0x04 ∷ [])) 1 (sevens 4) ≡ refuses 21 4)
+      × (restore (one ++ (bare 2 1 ++ bare 2 1)) 1 (sevens 4) ≡ refuses 22 4)
   -- what a whole dump says, and a delta; one whose base needs more words than itself
   pub describes : (describe one 1 ≡ gives (record { base = none; group = 2; id = 7; size = 2; words = 4; steps = 0 }))
       × (describe (three ++ (two ++ one)) 3 ≡ gives (record { base = some 2; group = 2; id = 7; size = 3; words = 4; steps = 2 }))

@@ -7,7 +7,7 @@ ghost use Rattle.refusal.specs.Answer.{pass};
 ghost use Rattle.store.specs.Store.{isWhole, dumpsOf, patchesIn, sound};
 ghost use Rattle.store.specs.Places.{nextAt, recordsFrom, Noted, Ordered};
 ghost use Rattle.chain.specs.Restore.{outside};
-ghost use Rattle.chain.specs.Laying.{Sized, Becomes, Measures, MeasuresWhole, MeasuresDelta};
+ghost use Rattle.chain.specs.Laying.{DataSized, Becomes, Measures, MeasuresWhole, MeasuresDelta};
 use crate::edits::Reached;
 use crate::edits::skip_data;
 use crate::edits::some_outside;
@@ -40,7 +40,7 @@ pub(crate) enum Measured {
 
 // How many bytes the data has that begins at a place, and where it ends.
 fn measure_data(store: &[u8], at: usize) -> Reached
-    ensures { λ r. ⌜ Sized (now (store .entry)) at r ⌝ }
+    ensures { λ r. ⌜ DataSized (now (store .entry)) at r ⌝ }
 {
     let mut place = at;
     let mut size = 0;

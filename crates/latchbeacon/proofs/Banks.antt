@@ -6,7 +6,7 @@ use Prim.Native.Nat.{ℕ}
 use Rattle.refusal.specs.Answer.{Answer, gives, refused, Verdict}
 use Rattle.refusal.specs.Tight.{lent}
 use Rattle.ump.proofs.Numbered.{Numbered, numbered, from-named}
-use Rattle.store.specs.Store.{check}
+use Rattle.store.specs.Store.{checkStore}
 use Rattle.store.proofs.Checks.{check-named}
 use Rattle.chain.specs.Restore.{restore, Description, describe}
 use Rattle.chain.specs.Chained.{Chained, PromisedChain}
@@ -79,7 +79,7 @@ changed : PromisedStore Checks Restores Describes Marks Collects
 changed =
     record {
       checks = λ {store = store} c.
-          sym (c .answer-is) ∙ ap numberRead (rw (c .given) at (c .promise)) ∙ number-read (check store) (from-named (check-named store));
+          sym (c .answer-is) ∙ ap numberRead (rw (c .given) at (c .promise)) ∙ number-read (checkStore store) (from-named (check-named store));
       dumps = promised;
       marks = λ {store = store} {n} m.
           let g = m .given in

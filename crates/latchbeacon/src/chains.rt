@@ -1,6 +1,6 @@
 // The exported calls on a store of dumps: its check, one dump described, restored or marked unwanted, and collecting.
 ghost use mathlib.Core.Path.{_≡_};
-ghost use Rattle.store.specs.Store.{check};
+ghost use Rattle.store.specs.Store.{checkStore};
 ghost use Rattle.chain.specs.Restore.{restore, describe};
 ghost use Rattle.reclaim.specs.Reclaim.{mark, collect};
 ghost use Rattle.answers.specs.Answers.{numberAnswer, doneAnswer, dumpAnswer, leaving};
@@ -10,7 +10,7 @@ use answers::NumberAnswer;
 // Checks the store and answers how many dumps it has; Format, Twice, Full, each over the whole store before the next.
 #[no_mangle]
 pub extern "C" fn latchbeacon_store_check(store: &[u8]) -> NumberAnswer
-    ensures { λ r. ⌜ r ≡ numberAnswer (check (now (store .entry))) ⌝ }
+    ensures { λ r. ⌜ r ≡ numberAnswer (checkStore (now (store .entry))) ⌝ }
 {
     answers::checked(store::check(store))
 }

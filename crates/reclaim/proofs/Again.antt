@@ -10,7 +10,7 @@ use lib.ListN.{length, length-append}
 use borrow.Author.Tests.{eqb-true, eq-eqb, le-ltb}
 use Rattle.refusal.specs.Answer.{gives, refused, pass}
 use Rattle.ump.specs.Edits.{elem}
-use Rattle.store.specs.Store.{recordsOf, atStart, wellFormed, Dump, dumpNumber, dumpsOf, held, numbersOf, twice, mostDumps, sound, check}
+use Rattle.store.specs.Store.{recordsOf, atStart, wellFormed, Dump, dumpNumber, dumpsOf, held, numbersOf, twice, mostDumps, sound, checkStore}
 use Rattle.store.proofs.Records.{not-both}
 use Rattle.store.proofs.Entering.{twice-again, twice-new}
 use Rattle.store.proofs.Checks.{sound-twice, sound-pass, sound-good, check-refused, check-passed}
@@ -54,7 +54,7 @@ module _ (store more : List ℕ) (s : sound store ≡ pass) (f : wellFormed atSt
       (ap (λ (ds : List Dump). twice (numbersOf ds)) all
       ∙ ap twice (map-append dumpNumber (dumpsOf store) (d ∷ [])) ∙ twice-again (numbersOf (dumpsOf store)) (dumpNumber d) [] e)
 
-  pub again-before : check (store ++ more) ≡ refused 22 0
+  pub again-before : checkStore (store ++ more) ≡ refused 22 0
   again-before = check-refused (store ++ more) before-twice
 
   module _ (keep : ℕ → Bool) (k : keep (dumpNumber d) ≡ false) where
@@ -83,7 +83,7 @@ module _ (store more : List ℕ) (s : sound store ≡ pass) (f : wellFormed atSt
         (le-ltb mostDumps (length (dumpsOf (left ++ more)))
         (omega (arith, count, few, fewer-kept keep (dumpNumber d) k (dumpsOf store) e, sound-good store s .few)))
 
-    pub again-after : check (left ++ more) ≡ gives (suc (length (dumpsOf left)))
+    pub again-after : checkStore (left ++ more) ≡ gives (suc (length (dumpsOf left)))
     again-after = sym (check-passed (left ++ more) again-sound (sym count))
 
     pub again-held : held (dumpsOf (left ++ more)) (dumpNumber d) ≡ some d

@@ -12,7 +12,7 @@ use Rattle.refusal.specs.Answer.{Answer, gives, refused, Verdict, pass, writes}
 use Rattle.refusal.proofs.Laws.{never-refused, writes-given}
 use Rattle.ump.specs.Limits.{mostWords}
 use Rattle.ump.specs.Edits.{elem}
-use Rattle.store.specs.Store.{recordsOf, atStart, wellFormed, Dump, dumpNumber, dumpsOf, held, numbersOf, sound, check}
+use Rattle.store.specs.Store.{recordsOf, atStart, wellFormed, Dump, dumpNumber, dumpsOf, held, numbersOf, sound, checkStore}
 use Rattle.store.proofs.Records.{and-true}
 use Rattle.store.proofs.Checks.{sound-good}
 use Rattle.chain.specs.Walk.{comes, IsMissing}
@@ -97,7 +97,7 @@ module _ (store : List ℕ) (s : sound store ≡ pass) where
   -- and may be used again, where it was Twice before
   pub left-free : (more : List ℕ) {d : Dump} → wellFormed atStart (recordsOf more) ≡ true → dumpsOf more ≡ d ∷ []
       → elem (dumpNumber d) (numbersOf (dumpsOf store)) ≡ true → (Needed store (dumpNumber d) → ⊥)
-      → (check (store ++ more) ≡ refused 22 0) × (check (new ++ more) ≡ gives (suc (length (dumpsOf new))))
+      → (checkStore (store ++ more) ≡ refused 22 0) × (checkStore (new ++ more) ≡ gives (suc (length (dumpsOf new))))
       × (held (dumpsOf (new ++ more)) (dumpNumber d) ≡ some d)
   unfolding collected
   left-free more {d} f one e h =

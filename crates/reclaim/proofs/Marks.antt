@@ -11,7 +11,7 @@ use borrow.Author.Tests.{eqb-true, eq-eqb}
 use Rattle.refusal.specs.Answer.{gives, refused, Verdict, pass, _▷_, guard, writes}
 use Rattle.refusal.proofs.Laws.{never-both, never-refused}
 use Rattle.ump.specs.Edits.{elem}
-use Rattle.store.specs.Store.{isWhole, isDelta, isWanted, isDump, isEdit, isData, bodySize, Record, recordsOf, atStart, followsBy, allowedBy, follows, wellFormed, dataIn, patchesIn, dumpOf, dumpsIn, dumpsOf, numbersOf, twice, sound, check}
+use Rattle.store.specs.Store.{isWhole, isDelta, isWanted, isDump, isEdit, isData, bodySize, Record, recordsOf, atStart, followsBy, allowedBy, follows, wellFormed, dataIn, patchesIn, dumpOf, dumpsIn, dumpsOf, numbersOf, twice, sound, checkStore}
 use Rattle.store.specs.declared.format.Follow.{Follow}
 use Rattle.store.proofs.Records.{not-both, and-true, body-other}
 use Rattle.store.proofs.Dumps.{dump-kinds}
@@ -255,7 +255,7 @@ module _ (store : List ℕ) (n : ℕ) (f : wellFormed atStart (recordsOf store) 
 
 -- the check, a restore and a description look at the dumps alone, and whether the store is good
 module _ (store other : List ℕ) (s : sound other ≡ sound store) (d : dumpsOf other ≡ dumpsOf store) where
-  same-check : check other ≡ check store
+  same-check : checkStore other ≡ checkStore store
   same-check = rw (s, d)
 
   same-restore : (m : ℕ) (words : List ℕ) → restore other m words ≡ restore store m words
@@ -297,7 +297,7 @@ module _ (store : List ℕ) (n : ℕ) {verdict : Verdict} {left : List ℕ} (e :
       mark-by (λ v l. (sound l ≡ sound store) × (dumpsOf l ≡ dumpsOf store)) (λ a b. (refl, refl))
       (λ s h. let f = sound-good store s .formed in (marked-sound store n f, marked-dumps store n f))
 
-  pub mark-checked : check left ≡ check store
+  pub mark-checked : checkStore left ≡ checkStore store
   mark-checked = same-check store left (mark-same .0) (mark-same .1)
 
   pub mark-restored : (m : ℕ) (words : List ℕ) → restore left m words ≡ restore store m words

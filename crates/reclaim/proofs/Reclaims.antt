@@ -4,7 +4,7 @@ use mathlib.Core.List.{List}
 use Prim.Native.Nat.{ℕ}
 use lib.ListN.{length, take}
 use Rattle.refusal.specs.Answer.{Answer, gives, refused, Verdict}
-use Rattle.store.specs.Store.{check}
+use Rattle.store.specs.Store.{checkStore}
 use Rattle.chain.specs.Restore.{restore, describe}
 use Rattle.chain.specs.Chained.{Restorer, Describer}
 use Rattle.restore.proofs.Chains as chain
@@ -38,7 +38,7 @@ module _ {Checks : Checker} {Restores : Restorer} {Describes : Describer} {Marks
   reclaimed =
       record {
         answers = λ store. (
-          record { answer = check store; left = tt; call = promised .can-check refl },
+          record { answer = checkStore store; left = tt; call = promised .can-check refl },
           λ n. record { answer = mark store n .0; left = mark store n .1; call = promised .can-mark refl },
           record { answer = collect store .0; left = collect store .1; call = promised .can-collect refl },
         );

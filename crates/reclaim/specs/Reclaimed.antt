@@ -12,7 +12,7 @@ use Rattle.refusal.specs.Answer.{Answer, gives, refused, Verdict, pass}
 use Rattle.ump.specs.Word.{pairAt}
 use Rattle.ump.specs.Limits.{mostWords}
 use Rattle.ump.specs.Edits.{elem}
-use Rattle.store.specs.Store.{check, isDump, recordsOf, atStart, wellFormed, Dump, dumpNumber, dumpsOf, held, numbersOf, sound}
+use Rattle.store.specs.Store.{checkStore, isDump, recordsOf, atStart, wellFormed, Dump, dumpNumber, dumpsOf, held, numbersOf, sound}
 use Rattle.chain.specs.Walk.{comes}
 use Rattle.chain.specs.Restore.{Description}
 use Rattle.chain.specs.Chained.{Restorer, Describer, Answers, PromisedChain}
@@ -125,12 +125,12 @@ pub record Reclaimed (Checks : Checker) (Restores : Restorer) (Describes : Descr
 
 -- each outcome of such calls is the definition's, and the definition's is one
 pub record PromisedStore (Checks : Checker) (Restores : Restorer) (Describes : Describer) (Marks : Marker) (Collects : Collector) : Type 0 where
-  pub checks : {store : List ℕ} {answer : Answer ℕ} → Checks store answer → answer ≡ check store
+  pub checks : {store : List ℕ} {answer : Answer ℕ} → Checks store answer → answer ≡ checkStore store
   pub dumps : PromisedChain Restores Describes
   pub marks : {store : List ℕ} {n : ℕ} {verdict : Verdict} {left : List ℕ} → Marks store n verdict left
       → _≡_ {A = Verdict × List ℕ} (verdict, left) (mark store n)
   pub collects : {store : List ℕ} {answer : Answer ℕ} {left : List ℕ} → Collects store answer left
       → _≡_ {A = Answer ℕ × List ℕ} (answer, left) (collect store)
-  pub can-check : {store : List ℕ} {answer : Answer ℕ} → check store ≡ answer → Checks store answer
+  pub can-check : {store : List ℕ} {answer : Answer ℕ} → checkStore store ≡ answer → Checks store answer
   pub can-mark : {store : List ℕ} {n : ℕ} {verdict : Verdict} {left : List ℕ} → mark store n ≡ (verdict, left) → Marks store n verdict left
   pub can-collect : {store : List ℕ} {answer : Answer ℕ} {left : List ℕ} → collect store ≡ (answer, left) → Collects store answer left

@@ -1,8 +1,8 @@
 -- An empty message, and its payload set. Assumes nothing.
 use mathlib.Core.Path.{_≡_, refl, sym, ap, _∙_}
 use mathlib.Core.List.{List, [], _∷_, _++_, append-nil}
-use Prim.Native.Nat.{ℕ, zero, suc, _+_, _-_, _*_, _≤_, _<_, max}
-use native.Mathlib.Nat.{zero-add, suc-add}
+use Prim.Native.Nat.{ℕ, zero, suc, _+_, _-_, _*_, _%_, _≤_, _<_, max}
+use native.Mathlib.Nat.{zero-add, suc-add, mod-eq-of-lt}
 use native.Mathlib.Omega.{arith}
 use lib.ListN.{length, drop, set, replicate, length-append, length-replicate}
 use lib.Seq.{drop-append-add}
@@ -20,13 +20,13 @@ use Rattle.ump.proofs.Checks.{valid-passes}
 use Rattle.ump.proofs.Message.{payloadOf-pack, group-of-pack, id-of-pack, pack-valid}
 use Rattle.chain.specs.Restore.{laidOut}
 
--- an empty message
-abbrev pub emptyWord : ℕ → ℕ → ℕ
-emptyWord group id = 1342242816 + group * 16777216 + id * 256
+-- the first word of an empty message
+abbrev emptyWord : ℕ → ℕ → ℕ
+emptyWord group id = word (80 + group) 1 id 0
 
 empty-is : (group id : ℕ) → pack sysex8 group (id ∷ []) [] ≡ emptyWord group id ∷ 0 ∷ 0 ∷ 0 ∷ []
 unfolding pack packs packsAt packetsFor joined frame statusFor wordsOf
-empty-is group id = let q : word (5 * 16 + group) (0 * 16 + (0 + 1)) id 0 ≡ emptyWord group id = omega arith in ap (λ (w : ℕ). w ∷ 0 ∷ 0 ∷ 0 ∷ []) q
+empty-is group id = refl
 
 -- with zeros behind it
 pub empty-words : (group id n : ℕ) → 4 ≤ n → set (replicate n 0) 0 (emptyWord group id) ≡ pack sysex8 group (id ∷ []) [] ++ replicate (n - 4) 0
@@ -112,11 +112,11 @@ words-four n = let q : _≡_ {A = ℕ} (wordsFor sysex8 0) 4 = refl in omega (ar
 
 -- what stands in the words after the three steps
 pub put-is : (group id : ℕ) → group < 16 → id < 256 → (before bytes : List ℕ) → length before ≤ mostWords → wordsFor sysex8 (length bytes) ≤ length before
-    → {first : ℕ} {cleared after : List ℕ} {answer : Answer Spliced} → cleared ≡ replicate (length before) 0 → first ≡ emptyWord group id
+    → {first : ℕ} {cleared after : List ℕ} {answer : Answer Spliced} → cleared ≡ replicate (length before) 0 → first ≡ word (5 % 16 * 16 + group % 16) (0 % 16 * 16 + 1 % 16) id 0
     → (answer, after) ≡ setPayload sysex8 (set cleared 0 first) 4 bytes → after ≡ laidOut (length before) (record { group = group; id = id; bytes = bytes })
 put-is group id g i before bytes h room {first} {cleared} {after} {answer} c f e =
     let w : set cleared 0 first ≡ pack sysex8 group (id ∷ []) [] ++ replicate (length before - 4) 0 =
-    ap (λ (l : List ℕ). set l 0 first) c ∙ ap (λ (x : ℕ). set (replicate (length before) 0) 0 x) f ∙ empty-words group id (length before) (omega (arith, words-four (length bytes), room)) in
+    ap (λ (l : List ℕ). set l 0 first) c ∙ ap (λ (x : ℕ). set (replicate (length before) 0) 0 x) (f ∙ ap (λ (x : ℕ). word (80 + x) 1 id 0) (mod-eq-of-lt g)) ∙ empty-words group id (length before) (omega (arith, words-four (length bytes), room)) in
     ap (λ (x : Answer Spliced × List ℕ). x .1) e
     ∙ ap (λ (l : List ℕ). setPayload sysex8 l 4 bytes .1) w
     ∙ set-is group id g i (length before) h bytes room

@@ -16,7 +16,7 @@ use Rattle.ump.specs.Edits.{replaced}
 use Rattle.store.specs.Store.{isData, bodySize, recordsAfter, followsBy, allowedBy, wellFormed, dataIn, patchesIn, dumpOf, dumpsIn, held, twice, sound}
 use Rattle.store.specs.Samples.{one, two, bare}
 use Rattle.chain.specs.Restore as paper
-use Rattle.chain.specs.Samples.{lent, shorter, growing}
+use Rattle.chain.specs.Samples.{sevens, shorter, growing}
 use Rattle.restore.specs.declared.Restored.{Restored}
 use Rattle.restore.specs.declared.Restored.the-variants as restored
 use Rattle.restore.proofs.restore.Kinds as restore-kinds
@@ -25,13 +25,13 @@ use Rattle.restore.proofs.restore.Reads as restore
 -- `restore` answers this of this store, number and so many words lent
 abbrev Wrong : List ℕ → ℕ → ℕ → Restored → Type 0
 Wrong store number n answer =
-    ShutOut 2 restore-kinds.ps restore-kinds.r restore.Post (λ κs a x s. (a .0 .now ≡ store) × (a .1 .0 ≡ number) × (a .1 .1 .0 .now ≡ lent n) × (x ≡ answer))
+    ShutOut 2 restore-kinds.ps restore-kinds.r restore.Post (λ κs a x s. (a .0 .now ≡ store) × (a .1 .0 ≡ number) × (a .1 .1 .0 .now ≡ sevens n) × (x ≡ answer))
 
 -- it leaves such a word at an index
 abbrev Left : List ℕ → ℕ → ℕ → ℕ → ℕ → Type 0
 Left store number n index word =
     ShutOut 2 restore-kinds.ps restore-kinds.r restore.Post
-    (λ κs a x s. (a .0 .now ≡ store) × (a .1 .0 ≡ number) × (a .1 .1 .0 .now ≡ lent n) × (getD (s .1 .1 .0 .now) index 0 ≡ word))
+    (λ κs a x s. (a .0 .now ≡ store) × (a .1 .0 ≡ number) × (a .1 .1 .0 .now ≡ sevens n) × (getD (s .1 .1 .0 .now) index 0 ≡ word))
 
 abbrev refuse : Refusal → Restored
 refuse name = restored.Refused (record { refusal = name; place = 0 })

@@ -40,14 +40,14 @@ abbrev pub laidMeaning : Laid → List ℕ → Answer Payload
 laidMeaning (laid.Payload held) scratch = gives (record { group = held .group; id = held .id; bytes = take (held .size) scratch })
 laidMeaning (laid.Refused refusal) scratch = refused (numberOf refusal) 0
 
-abbrev pub Inside : Laid → ℕ → Type 0
-Inside (laid.Payload held) n = held .size ≤ n
-Inside (laid.Refused refusal) n = Unit {0}
+abbrev pub FitsIn : Laid → ℕ → Type 0
+FitsIn (laid.Payload held) n = held .size ≤ n
+FitsIn (laid.Refused refusal) n = Unit {0}
 
 -- the answer, its bytes in the scratch
 pub record Lays (answer : Answer Payload) (r : Laid) (scratch : List ℕ) : Type 0 where
   pub means : laidMeaning r scratch ≡ answer
-  pub inside : Inside r (length scratch)
+  pub inside : FitsIn r (length scratch)
 
 abbrev pub baseIn : Held → List ℕ → Payload
 baseIn held scratch = record { group = held .group; id = held .id; bytes = take (held .size) scratch }

@@ -65,8 +65,8 @@ fn restore_large(store: &[u8], places: &[usize], number: usize, words: &mut [u32
     requires { ⌜ Readied (now store) (now places) (now words) ⌝ }
     ensures { λ r. ⌜ (restoredMeaning r, now (words .exit)) ≡ restoreOf (now (store .entry)) number (now (words .entry)) ⌝ }
 {
-    let mut first = [0u8; 53248];
-    let mut second = [0u8; 53248];
+    let mut first = [0u8; layout::MOST_BYTES];
+    let mut second = [0u8; layout::MOST_BYTES];
     restore_in(store, places, number, words, &mut first, &mut second)
 }
 
@@ -86,7 +86,7 @@ fn restore_noted(store: &[u8], places: &[usize], number: usize, words: &mut [u32
 pub fn restore(store: &[u8], number: usize, words: &mut [u32]) -> Restored
     ensures { λ r. ⌜ (restoredMeaning r, now (words .exit)) ≡ restoreOf (now (store .entry)) number (now (words .entry)) ⌝ }
 {
-    if words.len() > 16384 {
+    if words.len() > layout::MOST_WORDS {
         return Restored::Refused(Fault {
             refusal: Refusal::Long,
             place: 0,

@@ -13,7 +13,7 @@ use Rattle.refusal.specs.Number.{numberOf}
 use Rattle.refusal.specs.declared.Fault.{Fault}
 use Rattle.refusal.specs.declared.Refusal.the-variants.{Format, Twice, Full}
 use Rattle.refusal.proofs.Laws.{never-refused, given-passes, refused-by, Named, by-guard, by-both, accepted}
-use Rattle.store.specs.Store.{recordsOf, atStart, wellFormed, Dump, dumpsOf, numbersOf, twice, mostDumps, sound, check}
+use Rattle.store.specs.Store.{recordsOf, atStart, wellFormed, Dump, dumpsOf, numbersOf, twice, mostDumps, sound, checkStore}
 use Rattle.store.specs.Places.{dumpAt, Noted}
 use Rattle.store.specs.Meaning.{checkedMeaning, Indexes}
 use Rattle.store.specs.declared.Checked.{Checked}
@@ -70,15 +70,15 @@ sound-named store =
     by-both _ _ (by-guard (not (wellFormed atStart (recordsOf store))) Format 0)
     (by-both _ _ (by-guard (twice (numbersOf (dumpsOf store))) Twice 0) (by-guard (ltb mostDumps (length (dumpsOf store))) Full 0))
 
-pub check-named : (store : List ℕ) → Named (check store)
+pub check-named : (store : List ℕ) → Named (checkStore store)
 check-named store = by-both _ _ (sound-named store) accepted
 
 -- ---- the answer, and the places
 
-pub check-refused : (store : List ℕ) {number : ℕ} → sound store ≡ refused number 0 → check store ≡ refused number 0
+pub check-refused : (store : List ℕ) {number : ℕ} → sound store ≡ refused number 0 → checkStore store ≡ refused number 0
 check-refused store e = rw e
 
-pub check-passed : (store : List ℕ) {count : ℕ} → sound store ≡ pass → count ≡ length (dumpsOf store) → gives count ≡ check store
+pub check-passed : (store : List ℕ) {count : ℕ} → sound store ≡ pass → count ≡ length (dumpsOf store) → gives count ≡ checkStore store
 check-passed store e q = rw (e, q)
 
 pub indexes-refused : {store places : List ℕ} {r : Checked} {number : ℕ} → checkedMeaning r ≡ refused number 0 → sound store ≡ refused number 0 → Indexes store r places

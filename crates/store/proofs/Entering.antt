@@ -11,7 +11,7 @@ use borrow.Author.Tests.{eqb-true, eqb-false, eq-eqb, ne-eqb}
 use Rattle.ump.specs.Word.{pairAt}
 use Rattle.ump.specs.Edits.{elem}
 use Rattle.store.specs.Store.{isDump, Dump, dumpsOf, numbersOf, twice}
-use Rattle.store.specs.Places.{nextAt, dumpsFrom, dumpAt, Begins, Noted, flagged, Flags, Entering}
+use Rattle.store.specs.Places.{nextAt, dumpsFrom, dumpAt, DumpBegins, Noted, flagged, Flags, Entering}
 use Rattle.store.specs.Meaning.{Enters, Passed}
 use Rattle.store.specs.declared.numbers.Entered.the-variants as entered
 use Rattle.store.proofs.Records.{not-both}
@@ -142,7 +142,7 @@ module _ {store : List ℕ} {at count : ℕ} {used places : List ℕ} (e : Enter
               map-snoc [] = refl
               map-snoc (x ∷ l) = ap (λ (ds : List Dump). dumpAt store x ∷ ds) (map-snoc l)
 
-          place : (i : ℕ) → i < count + 1 → i < length places → (b : Bool) → eqb i count ≡ b → Begins store (getD (set places count at) i 0)
+          place : (i : ℕ) → i < count + 1 → i < length places → (b : Bool) → eqb i count ≡ b → DumpBegins store (getD (set places count at) i 0)
           place i k l true p =
               let same = eqb-true i count p in
               rw (same, getD-set-same places count at 0 (omega (arith, same, l))) (h, d)

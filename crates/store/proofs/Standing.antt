@@ -11,7 +11,7 @@ use lib.Dec.{eqb, ltb}
 use borrow.Author.Tests.{eq-eqb, ne-eqb, eqb-true, eqb-false, lt-ltb, ltb-true}
 use Rattle.ump.specs.Word.{pairAt}
 use Rattle.store.specs.Store.{Dump, dumpNumber, held, dumpsOf}
-use Rattle.store.specs.Places.{dumpAt, Begins, Noted}
+use Rattle.store.specs.Places.{dumpAt, DumpBegins, Noted}
 use Rattle.store.proofs.Records.{and-true}
 use Rattle.store.proofs.Dumps.{number-here}
 
@@ -38,7 +38,7 @@ module _ (store places : List ℕ) (n : ℕ) where
     pub test-inside : test ≡ true → at < length store
     test-inside e = ltb-true at (length store) (and-true (ltb at (length store)) (eqb (pairAt store (at + 1)) n) e .0)
 
-    module _ (h : index < length places) (b : Begins store (getD places index 0)) where
+    module _ (h : index < length places) (b : DumpBegins store (getD places index 0)) where
       same : {c : Bool} → test ≡ c → eqb (dumpNumber (dumpAt store at)) n ≡ c
       same e = ap (λ (k : ℕ). eqb k n) (number-here store at (b .0) (b .1)) ∙ sym (ap (λ (t : Bool). t && eqb (pairAt store (at + 1)) n) (lt-ltb at (length store) (b .0))) ∙ e
 

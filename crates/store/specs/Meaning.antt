@@ -8,8 +8,8 @@ use Prim.Native.Nat.{ℕ, _≤_, _<_}
 use lib.ListN.{length, take}
 use Rattle.refusal.specs.Answer.{Answer, gives}
 use Rattle.refusal.specs.Meaning.{faultOf}
-use Rattle.store.specs.Store.{check, Dump, dumpsOf, numbersOf, held, twice}
-use Rattle.store.specs.Places.{nextAt, dumpAt, Begins, Noted, Entering}
+use Rattle.store.specs.Store.{checkStore, Dump, dumpsOf, numbersOf, held, twice}
+use Rattle.store.specs.Places.{nextAt, dumpAt, DumpBegins, Noted, Entering}
 use Rattle.store.specs.declared.Checked.{Checked}
 use Rattle.store.specs.declared.Checked.the-variants as checked
 use Rattle.store.specs.declared.finding.Found.{Found}
@@ -23,7 +23,7 @@ checkedMeaning (checked.Refused fault) = faultOf fault
 
 -- the check's answer, and the places of the dumps where it is accepted and there is room for them
 pub record Indexes (store : List ℕ) (r : Checked) (places : List ℕ) : Type 0 where
-  pub checks : checkedMeaning r ≡ check store
+  pub checks : checkedMeaning r ≡ checkStore store
   pub notes : (count : ℕ) → r ≡ checked.Dumps count → count ≤ length places → Noted store (take count places)
 
 -- the pass goes on to the next place, or comes to a number used again
@@ -44,9 +44,9 @@ foundMeaning store (found.At at) = some (dumpAt store at)
 foundMeaning store found.Nothing = none
 
 -- what is found is a dump
-abbrev pub Stands : List ℕ → Found → Type 0
-Stands store (found.At at) = Begins store at
-Stands store found.Nothing = Unit {0}
+abbrev pub FoundDump : List ℕ → Found → Type 0
+FoundDump store (found.At at) = DumpBegins store at
+FoundDump store found.Nothing = Unit {0}
 
 -- and stands inside the store, wherever it was looked for
 abbrev pub FoundInside : List ℕ → Found → Type 0
@@ -57,4 +57,4 @@ FoundInside store found.Nothing = Unit {0}
 pub record Finds (store places : List ℕ) (number : ℕ) (r : Found) : Type 0 where
   pub inside : FoundInside store r
   pub is : Noted store places → foundMeaning store r ≡ held (dumpsOf store) number
-  pub stands : Noted store places → Stands store r
+  pub stands : Noted store places → FoundDump store r

@@ -30,8 +30,8 @@ abbrev pub dumpAt : List ℕ → ℕ → Dump
 dumpAt store at = dumpOf (recordAt store at) (recordsFrom store (nextAt store at))
 
 -- a dump begins at a place
-abbrev pub Begins : List ℕ → ℕ → Type 0
-Begins store at = (at < length store) × (isDump (getD store at 0) ≡ true)
+abbrev pub DumpBegins : List ℕ → ℕ → Type 0
+DumpBegins store at = (at < length store) × (isDump (getD store at 0) ≡ true)
 
 -- the place behind the record at a place; past the end no record stands
 pub record Behind (store : List ℕ) (at next : ℕ) : Type 0 where
@@ -51,7 +51,7 @@ Ordered end (patch ∷ patches) = (end ≤ patch .from) × Ordered (patch .to) p
 -- these are the places of all dumps of the store
 pub record Noted (store places : List ℕ) : Type 0 where
   pub dumps : dumpsOf store ≡ map (dumpAt store) places
-  pub begin : (i : ℕ) → i < length places → Begins store (getD places i 0)
+  pub begin : (i : ℕ) → i < length places → DumpBegins store (getD places i 0)
 
 -- flag n of a table is bit n % 8 of byte n / 8
 abbrev pub flagged : List ℕ → ℕ → Bool
@@ -72,4 +72,4 @@ pub record Entering (store : List ℕ) (at count : ℕ) (used places : List ℕ)
   pub marks : (m : ℕ) → m < 65536 → flagged used m ≡ elem m passed
   pub counted : length (dumpsOf store) ≡ count + length (dumpsFrom store at)
   pub dumps : count ≤ length places → dumpsOf store ≡ map (dumpAt store) (take count places) ++ dumpsFrom store at
-  pub begin : (i : ℕ) → i < count → i < length places → Begins store (getD places i 0)
+  pub begin : (i : ℕ) → i < count → i < length places → DumpBegins store (getD places i 0)

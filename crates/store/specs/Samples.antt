@@ -4,7 +4,7 @@ use mathlib.Core.Path.{_≡_, refl}
 use mathlib.Core.List.{List, [], _∷_, _++_}
 use Prim.Native.Nat.{ℕ}
 use Rattle.refusal.specs.Answer.{gives, refused}
-use Rattle.store.specs.Store.{isData, bodySize, recordsAfter, followsBy, allowedBy, wellFormed, whole, delta, dataIn, patchesIn, dumpOf, dumpsIn, dumpsOf, twice, sound, check}
+use Rattle.store.specs.Store.{isData, bodySize, recordsAfter, followsBy, allowedBy, wellFormed, whole, delta, dataIn, patchesIn, dumpOf, dumpsIn, dumpsOf, twice, sound, checkStore}
 
 -- dump 1: group 2, id 7, data 41 42 in two records
 abbrev pub one : List ℕ
@@ -26,31 +26,31 @@ pub record Samples : Type 0 where
   pub dumps : dumpsOf (two ++ one) ≡ delta 2 1 (record { from = 1; to = 1; bytes = 0x43 ∷ [] } ∷ []) ∷ whole 1 2 7 (0x41 ∷ 0x42 ∷ []) ∷ []
   pub highest-first : dumpsOf (0x02 ∷ 1 ∷ 0 ∷ 0 ∷ 2 ∷ []) ≡ delta 256 2 [] ∷ []
   -- how many there are; the empty store is good, and so is a base that stands behind its delta
-  pub counts : (check [] ≡ gives 0) × (check (two ++ one) ≡ gives 2)
+  pub counts : (checkStore [] ≡ gives 0) × (checkStore (two ++ one) ≡ gives 2)
   -- a dump that is not wanted any more is read as before
   pub unwanted : (dumpsOf (0x12 ∷ 0 ∷ 2 ∷ 0 ∷ 1 ∷ (0x11 ∷ 0 ∷ 1 ∷ 2 ∷ 7 ∷ (0x81 ∷ 0x41 ∷ []))) ≡ delta 2 1 [] ∷ whole 1 2 7 (0x41 ∷ []) ∷ [])
-      × (check (0x12 ∷ 0 ∷ 2 ∷ 0 ∷ 1 ∷ (0x11 ∷ 0 ∷ 1 ∷ 2 ∷ 7 ∷ (0x81 ∷ 0x41 ∷ []))) ≡ gives 2)
+      × (checkStore (0x12 ∷ 0 ∷ 2 ∷ 0 ∷ 1 ∷ (0x11 ∷ 0 ∷ 1 ∷ 2 ∷ 7 ∷ (0x81 ∷ 0x41 ∷ []))) ≡ gives 2)
   -- Format: unknown kinds, 10 and 13 hex among them; a short body; data behind a delta; an edit behind a whole dump; either at the start;
   -- group 16; an edit that begins before the end of the one before it
-  pub unknown : (check (one ++ (0x04 ∷ [])) ≡ refused 21 0)
-      × (check (0x10 ∷ 0 ∷ 1 ∷ 2 ∷ 7 ∷ []) ≡ refused 21 0)
-      × (check (bare 2 1 ++ (0x13 ∷ 0 ∷ 1 ∷ 0 ∷ 1 ∷ [])) ≡ refused 21 0)
-      × (check (one ++ (0x80 ∷ [])) ≡ refused 21 0)
-      × (check (one ++ (0x8E ∷ one)) ≡ refused 21 0)
-  pub short : (check (one ++ (0x82 ∷ 1 ∷ [])) ≡ refused 21 0) × (check (0x01 ∷ 0 ∷ 1 ∷ 2 ∷ []) ≡ refused 21 0)
-  pub misplaced : (check (one ++ (bare 2 1 ++ (0x81 ∷ 1 ∷ []))) ≡ refused 21 0)
-      × (check (one ++ edit 0 0) ≡ refused 21 0)
-      × (check (edit 0 0) ≡ refused 21 0)
-      × (check (0x81 ∷ 1 ∷ []) ≡ refused 21 0)
-  pub group : check (0x01 ∷ 0 ∷ 1 ∷ 16 ∷ 0 ∷ []) ≡ refused 21 0
-  pub order : check (one ++ (bare 2 1 ++ (edit 0 2 ++ edit 1 3))) ≡ refused 21 0
+  pub unknown : (checkStore (one ++ (0x04 ∷ [])) ≡ refused 21 0)
+      × (checkStore (0x10 ∷ 0 ∷ 1 ∷ 2 ∷ 7 ∷ []) ≡ refused 21 0)
+      × (checkStore (bare 2 1 ++ (0x13 ∷ 0 ∷ 1 ∷ 0 ∷ 1 ∷ [])) ≡ refused 21 0)
+      × (checkStore (one ++ (0x80 ∷ [])) ≡ refused 21 0)
+      × (checkStore (one ++ (0x8E ∷ one)) ≡ refused 21 0)
+  pub short : (checkStore (one ++ (0x82 ∷ 1 ∷ [])) ≡ refused 21 0) × (checkStore (0x01 ∷ 0 ∷ 1 ∷ 2 ∷ []) ≡ refused 21 0)
+  pub misplaced : (checkStore (one ++ (bare 2 1 ++ (0x81 ∷ 1 ∷ []))) ≡ refused 21 0)
+      × (checkStore (one ++ edit 0 0) ≡ refused 21 0)
+      × (checkStore (edit 0 0) ≡ refused 21 0)
+      × (checkStore (0x81 ∷ 1 ∷ []) ≡ refused 21 0)
+  pub group : checkStore (0x01 ∷ 0 ∷ 1 ∷ 16 ∷ 0 ∷ []) ≡ refused 21 0
+  pub order : checkStore (one ++ (bare 2 1 ++ (edit 0 2 ++ edit 1 3))) ≡ refused 21 0
   -- no Format: edits that touch; one that is reversed; one that begins before the end of an edit of another delta
-  pub ordered : (check (one ++ (bare 2 1 ++ (edit 0 2 ++ edit 2 2))) ≡ gives 2)
-      × (check (one ++ (bare 2 1 ++ edit 2 1)) ≡ gives 2)
-      × (check (one ++ (bare 2 1 ++ (edit 0 2 ++ (bare 3 1 ++ edit 1 1)))) ≡ gives 3)
+  pub ordered : (checkStore (one ++ (bare 2 1 ++ (edit 0 2 ++ edit 2 2))) ≡ gives 2)
+      × (checkStore (one ++ (bare 2 1 ++ edit 2 1)) ≡ gives 2)
+      × (checkStore (one ++ (bare 2 1 ++ (edit 0 2 ++ (bare 3 1 ++ edit 1 1)))) ≡ gives 3)
   -- Twice, a whole dump's number or a delta's; Format first, though it stands behind
-  pub used-twice : (check (one ++ bare 1 1) ≡ refused 22 0) × (check (one ++ (0x12 ∷ 0 ∷ 1 ∷ 0 ∷ 1 ∷ [])) ≡ refused 22 0)
-      × (check (one ++ (bare 1 1 ++ (0x04 ∷ []))) ≡ refused 21 0)
+  pub used-twice : (checkStore (one ++ bare 1 1) ≡ refused 22 0) × (checkStore (one ++ (0x12 ∷ 0 ∷ 1 ∷ 0 ∷ 1 ∷ [])) ≡ refused 22 0)
+      × (checkStore (one ++ (bare 1 1 ++ (0x04 ∷ []))) ≡ refused 21 0)
 
 pub samples : Samples
 unfolding isData bodySize recordsAfter followsBy allowedBy wellFormed dataIn patchesIn dumpOf dumpsIn twice sound

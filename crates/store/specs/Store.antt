@@ -144,5 +144,5 @@ sound store =
     ▷ guard (ltb mostDumps (length (dumpsOf store))) 23 0
 
 -- the check as a call: how many dumps there are
-abbrev pub check : List ℕ → Answer ℕ
-check store = sound store ▷ gives (length (dumpsOf store))
+abbrev pub checkStore : List ℕ → Answer ℕ
+checkStore store = sound store ▷ gives (length (dumpsOf store))

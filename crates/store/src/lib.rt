@@ -8,7 +8,7 @@ pub mod record;
 ghost use mathlib.Core.Path.{_≡_};
 ghost use Rattle.refusal.specs.Answer.{refused};
 ghost use Rattle.refusal.specs.Number.{numberOf};
-ghost use Rattle.store.specs.Store.{check as checkOf};
+ghost use Rattle.store.specs.Store.{checkStore};
 ghost use Rattle.store.specs.Meaning.{checkedMeaning, Indexes};
 use numbers::Entered;
 use refusal::Fault;
@@ -49,7 +49,7 @@ pub fn index(store: &[u8], places: &mut [usize]) -> Checked
 
 // Checks the store: Format, Twice, Full, each over the whole store; answers the number of dumps.
 pub fn check(store: &[u8]) -> Checked
-    ensures { λ r. ⌜ checkedMeaning r ≡ checkOf (now (store .entry)) ⌝ }
+    ensures { λ r. ⌜ checkedMeaning r ≡ checkStore (now (store .entry)) ⌝ }
 {
     let mut places = [0usize; 256];
     index(store, &mut places)

@@ -5,7 +5,7 @@ use native.Mathlib.Omega.{arith}
 use lib.ListN.{length}
 use Rattle.store.specs.Store.{isEdit}
 use Rattle.store.proofs.Parts.{test-is, edit-inside}
-use Rattle.chain.specs.Laying.{Sized}
+use Rattle.chain.specs.Laying.{DataSized}
 use Rattle.chain.proofs.Sizing.{Putting, putting-start, edit-early, putting-more, putting-end}
 use Rattle.chain.proofs.measuring.measure_edits.Statement.{statement}
 use Rattle.chain.proofs.measuring.measure_edits.Tie as tie
@@ -51,7 +51,7 @@ add-done c =
     let store = s .args .store .now in
     let e = test-is isEdit (t .before .is-edit .ensures) (t .before .before .byte .ensures) (t .if1 .taken) in
     let h = edit-inside store (l .loop .place) e in
-    let r : Sized _ _ _ = rw (x .next .ensures .is h) at (m .measure-data .ensures) in
+    let r : DataSized _ _ _ = rw (x .next .ensures .is h) at (m .measure-data .ensures) in
     omega (arith, h, r .inside, n .number-at .ensures .1)
 
 add-done-2 : tie.Need-add-done-2 Inv-loop μ-loop
@@ -65,7 +65,7 @@ add-done-2 c =
     let store = s .args .store .now in
     let e = test-is isEdit (t .before .is-edit .ensures) (t .before .before .byte .ensures) (t .if1 .taken) in
     let h = edit-inside store (l .loop .place) e in
-    let r : Sized _ _ _ = rw (x .next .ensures .is h) at (m .measure-data .ensures) in
+    let r : DataSized _ _ _ = rw (x .next .ensures .is h) at (m .measure-data .ensures) in
     omega (arith, h, r .inside, l .loop .inv .fewer, edit-early (l .loop .inv) e, n .number-at .ensures .0, n .number-at .ensures .1)
 
 add-number-at-2 : tie.Need-add-number-at-2 Inv-loop μ-loop
@@ -93,7 +93,7 @@ loop-less c =
     let store = s .args .store .now in
     let e = test-is isEdit (t .before .is-edit .ensures) (t .before .before .byte .ensures) (t .if1 .taken) in
     let h = edit-inside store (l .loop .place) e in
-    let r : Sized _ _ _ = rw (x .next .ensures .is h) at (m .measure-data .ensures) in
+    let r : DataSized _ _ _ = rw (x .next .ensures .is h) at (m .measure-data .ensures) in
     omega (arith, h, r .fewer)
 
 loop-again : tie.Need-loop-again Inv-loop μ-loop
@@ -108,7 +108,7 @@ loop-again c =
     let store = s .args .store .now in
     let e = test-is isEdit (t .before .is-edit .ensures) (t .before .before .byte .ensures) (t .if1 .taken) in
     let h = edit-inside store (l .loop .place) e in
-    let r : Sized _ _ _ = rw (x .next .ensures .is h) at (m .measure-data .ensures) in
+    let r : DataSized _ _ _ = rw (x .next .ensures .is h) at (m .measure-data .ensures) in
     putting-more (l .loop .inv) e r (n .number-at .ensures .0) (c .number-at2 .ensures .0)
 
 sub-result : tie.Need-sub-result Inv-loop μ-loop

@@ -2,7 +2,7 @@
 use borrow.Author.Needs.{needs}
 use mathlib.Core.Path.{refl, _∙_}
 use lib.ListN.{getD}
-use Rattle.chain.specs.Laying.{Sized}
+use Rattle.chain.specs.Laying.{DataSized}
 use Rattle.chain.proofs.Steps.{whole-dump, group-here, id-here}
 use Rattle.chain.proofs.measuring.measure_whole.Statement.{statement}
 use Rattle.chain.proofs.measuring.measure_whole.Tie as tie
@@ -13,7 +13,7 @@ returns c =
     let s = m .before .before .before in
     let x = s .args in
     let dump = whole-dump (getD (x .store .now) (x .at) 0) (s .pre .1) in
-    let r : Sized _ _ _ = rw (m .before .next .ensures .is (s .pre .0)) at (m .measure-data .ensures) in
+    let r : DataSized _ _ _ = rw (m .before .next .ensures .is (s .pre .0)) at (m .measure-data .ensures) in
     record {
       group = c .before .byte .ensures ∙ group-here (x .store .now) (x .at) dump;
       id = c .byte2 .ensures ∙ id-here (x .store .now) (x .at) dump;

@@ -2,3 +2,4 @@
 pub mod Digits
 pub mod Flowing
 pub mod Heads
+pub mod Samples

@@ -7,3 +7,4 @@ pub mod Splices
 pub mod Thirteens
 pub mod Pieces
 pub mod Merging
+pub mod Samples

@@ -12,7 +12,7 @@ use Rattle.refusal.proofs.Laws.{never-refused}
 use Rattle.ump.specs.Edits.{Edit, badEdit, lengths, someBad, someOverlap, perEdit, editIn, editsOf, badList}
 use Rattle.ump.proofs.Checks.{or-left, or-right}
 use Rattle.splice.specs.Merging.{widths}
-use Rattle.splice.proofs.Turning.{rest, rest-all, rest-end, rest-step}
+use Rattle.merge.proofs.Turning.{rest, rest-all, rest-end, rest-step}
 use Rattle.edit.specs.Growth.{Sound}
 use Rattle.edit.specs.Listed.{sizeAfter, listed}
 use Rattle.edit.proofs.Laws.{sound-has}

@@ -17,7 +17,7 @@ use Rattle.ump.specs.Runs.{Run, runFrom, runAt}
 use Rattle.ump.specs.Origin.{headerOctet, carried, dumpByte, editByte, filler, zeroed, untouched, beginning, originOf, originIn, origin}
 use Rattle.ump.proofs.Asking.{asked-past, asked-lent}
 use Rattle.ump.proofs.Runs.{run-tail, run-past, run-gap, run-within, run-later}
-use Rattle.splice.proofs.Turning.{rest, rest-all, rest-end}
+use Rattle.merge.proofs.Turning.{rest, rest-all, rest-end}
 use Rattle.edit.proofs.Lists.{rest-here, Kept, kept-none, kept-on}
 
 -- the walk for byte i of a payload of n bytes has come to edit `index`: the edit before it ends at `end`, and behind that the byte

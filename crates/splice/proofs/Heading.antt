@@ -21,9 +21,9 @@ use Rattle.flow.proofs.Digits.{val-take}
 use Rattle.flow.proofs.Puts.{put-is}
 use Rattle.splice.specs.Accepted.{Accepted, Full}
 use Rattle.splice.specs.Header.{baseOf, withHead, leveled}
-use Rattle.splice.specs.Thirteens.{body}
-use Rattle.splice.specs.Pieces.{Stands}
-use Rattle.splice.proofs.Bodies.{body-number, body-fits, body-of-number, body-injective}
+use Rattle.merge.specs.Thirteens.{body}
+use Rattle.merge.specs.Pieces.{Stands}
+use Rattle.merge.proofs.Bodies.{body-number, body-fits, body-of-number, body-injective}
 use Rattle.flow.proofs.Octets as heads
 use Rattle.splice.proofs.Messages as messages
 use Rattle.splice.proofs.Messages.{inside, counts, size-is, size-fits, first-is}

@@ -5,13 +5,13 @@ use Prim.Native.Nat.{ℕ, zero, suc, _+_, _-_, _*_, _/_, _≤_, _<_}
 use native.Mathlib.Omega.{arith}
 use lib.ListN.{length, getD}
 use Rattle.ump.specs.Word.{nibble}
-use Rattle.ump.specs.Packet.{sysex8, sizeOf, countAt, sizeAt, joined, payload}
+use Rattle.ump.specs.Packet.{sysex8, countAt, sizeAt, joined, payload}
 use Rattle.ump.proofs.First.{Side, under, over, side}
 use Rattle.ump.proofs.Sizes.{size-small}
 use Rattle.ump.proofs.Message.{length-payload}
 use Rattle.ump.proofs.Payload.{payload-more}
 use Rattle.splice.specs.Accepted.{Accepted, Full}
-use Rattle.splice.proofs.Messages.{inside, there}
+use Rattle.splice.proofs.Messages.{inside, there, size-is}
 
 module _ {w : List ℕ} {len n : ℕ} (ok : Accepted w len n) (full : Full w len) where
   pub length-full : (s : ℕ) → s < len / 4 → length (payload sysex8 w s) ≡ 13 * s
@@ -40,12 +40,12 @@ module _ {w : List ℕ} {len n : ℕ} (ok : Accepted w len n) where
           rw z (both .1)
 
   -- then the size says so
-  pub full-is : (last : ℕ) → last ≡ sizeOf sysex8 (nibble (getD w (len - 4) 0) 3) → n ≡ 13 * (len / 4 - 1) + last → Full w len
+  pub full-is : (last : ℕ) → last ≡ nibble (getD w (len - 4) 0) 3 - 1 → n ≡ 13 * (len / 4 - 1) + last → Full w len
   full-is last e s p h =
       let top = len / 4 - 1 in
       let one : len / 4 ≡ suc top = omega arith in
       let at : len - 4 ≡ 4 * top = omega (arith, inside ok) in
-      let l : sizeAt sysex8 w top ≡ last = sym (rw at at e) in
+      let l : sizeAt sysex8 w top ≡ last = size-is ok top (omega arith) ∙ sym (rw at at e) in
       let m : length (payload sysex8 w (len / 4)) ≡ length (payload sysex8 w top) + sizeAt sysex8 w top =
       ap (λ (x : ℕ). length (payload sysex8 w x)) one ∙ payload-more sysex8 w top (there ok top (omega arith)) in
       full-below top (omega arith) (omega (arith, ok .sized)) p (omega arith)

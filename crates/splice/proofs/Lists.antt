@@ -14,8 +14,9 @@ use Rattle.ump.proofs.First.{Side, under, over, side}
 use Rattle.ump.proofs.Joined.{joined-cong, joined-front}
 use Rattle.ump.proofs.Fronts.{drop-take}
 use Rattle.ump.proofs.Replace.{endFrom, end-before, end-next}
-use Rattle.splice.specs.Merging.{isDue, width, stepOf, merged, widths}
-use Rattle.splice.proofs.Turning.{step-due, step-kept, merged-none, merged-step, take-front}
+use Rattle.merge.specs.Pass.{isDue, width, stepOf, merged}
+use Rattle.splice.specs.Merging.{widths}
+use Rattle.merge.proofs.Turning.{step-due, step-kept, merged-none, merged-step, take-front}
 
 -- ---- edits in order
 

@@ -9,8 +9,9 @@ use Rattle.ump.specs.Word.{Below}
 use Rattle.ump.specs.Packet.{sysex8}
 use Rattle.ump.specs.Edits.{editsOf, patchesOf, replaced}
 use Rattle.flow.specs.Flowing.{Poured}
-use Rattle.splice.specs.Merging.{merged, beginOf, Turns, packets, Merges, Within, lessAfter, Lists}
-use Rattle.splice.proofs.Turning.{below-merged}
+use Rattle.merge.specs.Pass.{merged, beginOf, Turns, packets, Merges}
+use Rattle.splice.specs.Merging.{Within, lessAfter, Lists}
+use Rattle.merge.proofs.Turning.{below-merged}
 use Rattle.splice.proofs.Passing.{all-merged, two-merged, turns-all, turns-shrink, turns-grow, length-less, less-size, less-total}
 use Rattle.splice.proofs.Standing.{poured-stands}
 

@@ -8,8 +8,9 @@ use native.Mathlib.Omega.{arith}
 use lib.ListN.{length}
 use Rattle.ump.specs.Edits.{Edit, Apart, replaced, editIn, editsFrom, editsOf, patchesOf, lengths, perEdit}
 use Rattle.ump.proofs.First.{Side, under, over, side}
-use Rattle.splice.specs.Merging.{width, stepOf, merged, beginOf, Ahead, Turns, packets, Within, lessAfter, widths, Summed, Lists}
-use Rattle.splice.proofs.Turning.{begin, begin-is, turns-inside, length-all}
+use Rattle.merge.specs.Pass.{width, stepOf, merged, beginOf, Ahead, Turns, packets}
+use Rattle.splice.specs.Merging.{Within, lessAfter, widths, Summed, Lists}
+use Rattle.merge.proofs.Turning.{begin, begin-is, turns-inside, length-all}
 use Rattle.splice.proofs.Lists.{Ordered, ordered, widths-inside, one-pass, two-passes, length-replaced}
 
 -- ---- three kinds of pass

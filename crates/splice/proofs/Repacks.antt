@@ -19,12 +19,12 @@ use Rattle.flow.proofs.Flowing.{flow-start, flow-step}
 use Rattle.flow.proofs.Poured.{flow-end}
 use Rattle.splice.specs.Accepted.{Accepted}
 use Rattle.splice.specs.Header.{baseOf, finished}
-use Rattle.splice.specs.Thirteens.{body, frontOf}
-use Rattle.splice.specs.Pieces.{none, taken, Reaches, Appends, Flows, Flushed}
-use Rattle.splice.specs.declared.pending.Pending.{Pending}
-use Rattle.splice.proofs.Messages.{inside, there, end-fits, base-is}
+use Rattle.merge.specs.Thirteens.{body, frontOf}
+use Rattle.merge.specs.Pieces.{none, taken, Reaches, Appends, Flows, Flushed}
+use Rattle.merge.specs.declared.pending.Pending.{Pending}
+use Rattle.splice.proofs.Messages.{inside, there, counts, end-fits, base-is}
 use Rattle.splice.proofs.Finished.{finished-is}
-use Rattle.splice.proofs.Sums.{flows-padded}
+use Rattle.merge.proofs.Sums.{flows-padded}
 use Rattle.splice.proofs.Taken.{taken-next, taken-inside, piece-number}
 
 -- the packets before this one are taken
@@ -54,11 +54,13 @@ module _ {w : List ℕ} {len n : ℕ} (ok : Accepted w len n) (head : ℕ) where
     same : (k : ℕ) → 4 * p ≤ k → getD us k 0 ≡ getD w k 0
     same k l = f .flows .rest k (omega (arith, behind))
 
-    pub repack-ready : head ≤ 4294967040 → (flow .packet ≤ p) × ((4 * p + 4 ≤ length us) × Reaches (length us) head flow 0)
+    pub repack-ready : head ≤ 4294967040
+        → ((flow .packet ≤ p) × ((4 * p + 4 ≤ length us) × Reaches (length us) head flow 0)) × ((0 < countAt sysex8 us p) × (countAt sysex8 us p ≤ 14))
     repack-ready free =
         let long : 4 * p + 4 ≤ length us = omega (arith, f .flows .long, there ok p h) in
         let padded = flows-padded (f .flows) below in
-        (behind, (long, record { padded = padded; fits = omega (arith, behind, padded .few); small = omega (arith, f .flows .long, inside ok); free = free }))
+        let reaches : Reaches (length us) head flow 0 = record { padded = padded; fits = omega (arith, behind, padded .few); small = omega (arith, f .flows .long, inside ok); free = free } in
+        ((behind, (long, reaches)), rw (same (4 * p) (omega arith)) (counts ok p h))
 
     pub repack-step : (us′ : List ℕ) (r : Pending)
         → Appends us us′ head flow (frontOf (val 13 (body us p)) (sizeAt sysex8 us p)) (sizeAt sysex8 us p) r

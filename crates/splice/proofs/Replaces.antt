@@ -15,12 +15,13 @@ use Rattle.ump.proofs.Splicing.{below-payload}
 use Rattle.splice.specs.Accepted.{Filled}
 use Rattle.flow.specs.Heads.{innerHead}
 use Rattle.splice.specs.Header.{baseOf, leveled, finished}
-use Rattle.splice.specs.Merging.{packets, Listed, Lists, BeginsAll, EndsAll}
-use Rattle.splice.proofs.Lengths.{words-number}
+use Rattle.merge.specs.Pass.{packets}
+use Rattle.splice.specs.Merging.{Listed, Lists, BeginsAll, EndsAll}
+use Rattle.merge.proofs.Lengths.{words-number}
 use Rattle.splice.proofs.Messages.{inside, end-fits, base-is}
 use Rattle.splice.proofs.Finished.{finished-is}
 use Rattle.splice.proofs.Heading.{leveled-stands, leveled-stored, leveled-long}
-use Rattle.splice.proofs.Turning.{below-merged}
+use Rattle.merge.proofs.Turning.{below-merged}
 use Rattle.splice.proofs.Passing.{all-merged}
 
 module _ {w us : List ℕ} {len size total filled : ℕ} {numbers bytes : List ℕ} (l : Listed w len size total numbers bytes) (f : Filled w len size us filled)

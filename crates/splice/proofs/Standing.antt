@@ -14,10 +14,10 @@ use Rattle.flow.specs.Digits.{val}
 use Rattle.flow.specs.Flowing.{Poured}
 use Rattle.flow.proofs.Digits.{val-take, val-high, val-fits}
 use Rattle.flow.proofs.Puts.{put-is}
-use Rattle.splice.specs.Thirteens.{body}
-use Rattle.splice.specs.Pieces.{Stands}
-use Rattle.splice.specs.Merging.{packets}
-use Rattle.splice.proofs.Bodies.{below-body, length-body, body-of-number, val-injective}
+use Rattle.merge.specs.Thirteens.{body}
+use Rattle.merge.specs.Pieces.{Stands}
+use Rattle.merge.specs.Pass.{packets}
+use Rattle.merge.proofs.Bodies.{below-body, length-body, body-of-number, val-injective}
 
 -- ---- as it was poured
 

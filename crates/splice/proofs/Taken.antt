@@ -16,10 +16,10 @@ use Rattle.ump.proofs.Payload.{payload-more, payload-mono}
 use Rattle.ump.proofs.Joined.{joined-around}
 use Rattle.flow.specs.Digits.{val}
 use Rattle.splice.specs.Accepted.{Accepted}
-use Rattle.splice.specs.Thirteens.{body, frontOf}
+use Rattle.merge.specs.Thirteens.{body, frontOf}
 use Rattle.splice.proofs.Messages.{there}
-use Rattle.splice.proofs.Bodies.{below-body, body-agree}
-use Rattle.splice.proofs.Parts.{front-part}
+use Rattle.merge.proofs.Bodies.{below-body, body-agree}
+use Rattle.merge.proofs.Parts.{front-part}
 
 four : (xs : List ℕ) → 4 ≤ length xs → take 4 xs ≡ getD xs 0 0 ∷ getD xs 1 0 ∷ getD xs 2 0 ∷ getD xs 3 0 ∷ []
 four [] h = absurd (omega arith)

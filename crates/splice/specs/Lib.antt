@@ -4,7 +4,5 @@ pub mod Zeros
 pub mod Header
 pub mod Accepted
 pub mod Splices
-pub mod Thirteens
-pub mod Pieces
 pub mod Merging
 pub mod Samples

@@ -2,7 +2,7 @@
 ghost use mathlib.Core.Path.{_≡_};
 ghost use Prim.Native.Nat.{_+_, _*_, _^_, _≤_, _<_};
 ghost use lib.ListN.{length};
-ghost use Rattle.ump.specs.Packet.{sysex8, sizeAt};
+ghost use Rattle.ump.specs.Packet.{sysex8, countAt, sizeAt};
 ghost use Rattle.ump.specs.Packing.{wordsFor};
 ghost use Rattle.ump.specs.Check.{payloadOf};
 ghost use Rattle.ump.specs.Splice.{rewritten};
@@ -10,19 +10,19 @@ ghost use Rattle.flow.specs.Digits.{val};
 ghost use Rattle.splice.specs.Accepted.{Accepted};
 ghost use Rattle.splice.specs.Header.{finished};
 ghost use Rattle.splice.specs.Zeros.{zeroed};
-ghost use Rattle.splice.specs.Thirteens.{body, frontOf};
-ghost use Rattle.splice.specs.Pieces.{Reaches, Appends, Flushed};
+ghost use Rattle.merge.specs.Thirteens.{body, frontOf};
+ghost use Rattle.merge.specs.Pieces.{Reaches, Appends};
 use super::header::base_of;
 use super::header::head;
 use super::header::inner_head;
 use super::header::put_head;
-use super::numbers::words_needed;
-use super::pending::Pending;
-use super::pending::append;
-use super::pending::nothing;
-use super::thirteen::front;
-use super::thirteen::load;
-use super::thirteen::store;
+use merge::numbers::words_needed;
+use merge::pending::Pending;
+use merge::pending::append;
+use merge::pending::flush;
+use merge::pending::nothing;
+use merge::thirteen::front;
+use merge::thirteen::load;
 
 // Zeroes the words from `from` up to `to`.
 pub(crate) fn zero(words: &mut [u32], from: usize, to: usize)
@@ -36,26 +36,16 @@ pub(crate) fn zero(words: &mut [u32], from: usize, to: usize)
     }
 }
 
-// Writes what is pending as one of so many packets.
-pub(crate) fn flush(words: &mut [u32], head: u32, pending: Pending, packets: usize)
-    requires { ⌜ (packets < 65536) × ((4 * packets ≤ length (now words)) × ((pending .high < 2 ^ 40) × (head ≤ 4294967040))) ⌝ }
-    ensures { λ _. ⌜ Flushed (now (words .entry)) head pending packets (now (words .exit)) ⌝ }
-{
-    let packet = pending.packet;
-    if packet < packets {
-        store(words, packet, head, pending.high, pending.low);
-    }
-}
-
 // The payload bytes of packet `packet`, after what is pending.
 fn take_packet(words: &mut [u32], head: u32, pending: Pending, packet: usize) -> Pending
     requires { ⌜ (pending .packet ≤ packet) × ((4 * packet + 4 ≤ length (now words)) × Reaches (length (now words)) head pending 0) ⌝ }
+    requires { ⌜ (0 < countAt sysex8 (now words) packet) × (countAt sysex8 (now words) packet ≤ 14) ⌝ }
     ensures { λ r. ⌜ Appends (now (words .entry)) (now (words .exit)) head pending
         (frontOf (val 13 (body (now (words .entry)) packet)) (sizeAt sysex8 (now (words .entry)) packet))
         (sizeAt sysex8 (now (words .entry)) packet) r ⌝ }
 {
     let at = 4 * packet;
-    let some = layout::sysex8_size(layout::count_of(words[at]));
+    let some = layout::count_of(words[at]) as usize - 1;
     if some == 0 {
         return pending;
     }

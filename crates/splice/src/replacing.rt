@@ -12,18 +12,18 @@ ghost use Rattle.splice.specs.Merging.{Listed, Within, lessAfter, Summed
 use super::header::base_of;
 use super::header::inner_head;
 use super::header::level;
-use super::merging::merge;
-use super::numbers::over;
-use super::numbers::words_needed;
 use super::packing::finish;
 use super::packing::pack;
+use merge::merging::merge;
+use merge::numbers::over;
+use merge::numbers::words_needed;
 
 // Whether every packet but the last is full: only then do the others carry as much as they can.
 pub(crate) fn is_full(words: &[u32], length: usize, size: usize) -> bool
     requires { ⌜ Accepted (now words) length size ⌝ }
     ensures { λ r. ⌜ (r ≡ true → Full (now (words .entry)) length) ⌝ }
 {
-    let last = layout::sysex8_size(layout::count_of(words[length - 4]));
+    let last = layout::count_of(words[length - 4]) as usize - 1;
     size == 13 * (length / 4 - 1) + last
 }
 

@@ -6,10 +6,10 @@ ghost use Rattle.ump.specs.Check.{payloadOf};
 ghost use Rattle.ump.specs.Splice.{spliced, rewritten};
 ghost use Rattle.splice.specs.Accepted.{Accepted};
 ghost use Rattle.splice.specs.Splices.{Possible, newSize};
-use super::numbers::words_needed;
 use super::packing::pack;
 use super::replacing::is_full;
 use super::replacing::replace_all;
+use merge::numbers::words_needed;
 
 // Replaces the payload bytes `from..to` of a valid message and writes the fewest-packet form; answers its length.
 pub(crate) fn splice(

@@ -12,7 +12,7 @@ use Rattle.refusal.specs.declared.Fault.{Fault}
 use Rattle.ump.specs.Packet.{sysex8}
 use Rattle.ump.specs.Packing.{wordsFor}
 use Rattle.ump.specs.Splice.{Spliced}
-use Rattle.splice.proofs.Lengths.{words-number}
+use Rattle.merge.proofs.Lengths.{words-number}
 use Rattle.splice.proofs.Messages.{inside, size-fits}
 use Rattle.edit.specs.Growth.{Sound}
 use Rattle.edit.specs.Meaning.{sizeMeaning}

@@ -3,7 +3,7 @@ use borrow.Author.Needs.{needs}
 use mathlib.Core.Path.{_≡_, sym, ap, _∙_}
 use Prim.Native.Nat.{_-_, _≤_}
 use Rattle.ump.specs.Edits.{someOverlap, editsOf}
-use Rattle.splice.proofs.Turning.{rest, rest-all, rest-end}
+use Rattle.merge.proofs.Turning.{rest, rest-all, rest-end}
 use Rattle.edit.proofs.Lists.{overlap-here, overlap-on}
 use Rattle.edit.proofs.listed.some_overlap.Statement.{statement}
 use Rattle.edit.proofs.listed.some_overlap.Tie as tie

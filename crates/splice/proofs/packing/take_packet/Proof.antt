@@ -1,29 +1,31 @@
 -- `take_packet` meets its contract, case by case. Assumes nothing.
 use mathlib.Core.Path.{_≡_, refl, sym, ap, _∙_}
-use Prim.Native.Nat.{ℕ, _*_, _^_, _≤_}
+use Prim.Native.Nat.{ℕ, _-_, _*_, _^_, _≤_}
 use native.Mathlib.Nat.{add-zero, zero-div}
 use native.Mathlib.Omega.{arith}
 use borrow.Author.Needs.{needs}
-use Rattle.ump.specs.Packet.{sysex8, sizeOf, sizeAt, countAt}
-use Rattle.ump.proofs.Sizes.{size-small}
-use Rattle.splice.proofs.Bodies.{body-fits}
-use Rattle.splice.proofs.Parts.{front-zero, front-all}
+use Rattle.ump.specs.Packet.{sysex8, sizeAt, countAt}
+use Rattle.ump.proofs.Sizes.{size-of-count}
+use Rattle.merge.proofs.Bodies.{body-fits}
+use Rattle.merge.proofs.Parts.{front-zero, front-all}
 use Rattle.splice.proofs.packing.take_packet.Statement.{statement}
 use Rattle.splice.proofs.packing.take_packet.Tie as tie
 
 -- how many bytes the packet carries
-some-is : (c : tie.After-sysex8-size) → let x = c .before .before .before .before .args in c .sysex8-size .result ≡ sizeAt sysex8 (x .words .now) (x .packet)
-some-is c = c .sysex8-size .ensures ∙ ap (sizeOf sysex8) (c .before .count-of .ensures)
+some-is : (c : tie.After-count-of) → let x = c .before .before .before .args in c .count-of .result - 1 ≡ sizeAt sysex8 (x .words .now) (x .packet)
+some-is c =
+    let st = c .before .before .before in
+    ap (λ (n : ℕ). n - 1) (c .count-of .ensures) ∙ sym (size-of-count sysex8 (countAt sysex8 (st .args .words .now) (st .args .packet)) (st .pre .1 .1))
 
-few : (c : tie.After-sysex8-size) → c .sysex8-size .result ≤ 13
-few c = let x = c .before .before .before .before .args in rw (some-is c) (size-small sysex8 (countAt sysex8 (x .words .now) (x .packet)))
+few : (c : tie.After-count-of) → (1 ≤ c .count-of .result) × (c .count-of .result ≤ 14)
+few c = omega (arith, c .count-of .ensures, c .before .before .before .pre .1)
 
 returns : tie.Need-returns
 returns c =
     let s = c .before in
-    let st = s .before .before .before .before in
+    let st = s .before .before .before in
     let x = st .args in
-    let r = st .pre .1 .1 in
+    let r = st .pre .0 .1 .1 in
     rw (sym (some-is s) ∙ c .if1 .taken, front-zero _ (body-fits (x .words .now) (x .packet)))
     (record {
       appended = record { fewer = λ l. (refl, (rw (zero-div (2 ^ (8 * x .pending .count)), add-zero), (omega arith, refl))); enough = λ l. absurd (omega (arith, r .padded .few)) };
@@ -34,9 +36,9 @@ append-requires : tie.Need-append-requires
 append-requires c κs =
     let l = c .before .before in
     let s = l .before .before .before in
-    let st = s .before .before .before .before in
-    let r = st .pre .1 .1 in
-    (omega arith, (l .load .ensures .1, record { padded = r .padded; fits = omega (arith, st .pre, r .padded .few); small = r .small; free = r .free }))
+    let st = s .before .before .before in
+    let r = st .pre .0 .1 .1 in
+    (omega arith, (l .load .ensures .1, record { padded = r .padded; fits = omega (arith, st .pre .0, r .padded .few); small = r .small; free = r .free }))
 
 returns-2 : tie.Need-returns-2
 returns-2 c =
@@ -48,9 +50,9 @@ append-requires-2 : tie.Need-append-requires-2
 append-requires-2 c κs =
     let l = c .before .before .before in
     let s = l .before .before .before in
-    let st = s .before .before .before .before in
-    let r = st .pre .1 .1 in
-    (few s, (c .front .ensures .1, record { padded = r .padded; fits = omega (arith, st .pre, r .padded .few, few s); small = r .small; free = r .free }))
+    let st = s .before .before .before in
+    let r = st .pre .0 .1 .1 in
+    (omega (arith, few s), (c .front .ensures .1, record { padded = r .padded; fits = omega (arith, st .pre .0, r .padded .few, few s); small = r .small; free = r .free }))
 
 returns-3 : tie.Need-returns-3
 returns-3 c =
@@ -67,7 +69,8 @@ take-packet-spec =
     (λ c. search needs)
     (λ c. search needs)
     (λ c κs. search needs)
-    (λ c κs. search needs)
+    (λ c. search needs)
+    (λ c. few c .0)
     returns
     (λ c κs. search needs)
     append-requires

@@ -6,8 +6,9 @@ use native.Mathlib.Omega.{arith}
 use borrow.Author.Needs.{needs}
 use lib.ListN.{length}
 use Rattle.ump.specs.Edits.{editIn, editsOf, perEdit}
-use Rattle.splice.specs.Merging.{width, lessAfter}
-use Rattle.splice.proofs.Turning.{rest, rest-all, rest-end, rest-step}
+use Rattle.merge.specs.Pass.{width}
+use Rattle.splice.specs.Merging.{lessAfter}
+use Rattle.merge.proofs.Turning.{rest, rest-all, rest-end, rest-step}
 use Rattle.splice.proofs.replacing.less_after.Statement.{statement}
 use Rattle.splice.proofs.replacing.less_after.Tie as tie
 

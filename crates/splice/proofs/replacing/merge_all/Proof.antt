@@ -8,8 +8,9 @@ use borrow.Author.Needs.{needs}
 use Rattle.ump.specs.Word.{Below}
 use Rattle.ump.proofs.Words.{below-at}
 use Rattle.ump.specs.Edits.{editsOf}
-use Rattle.splice.specs.Merging.{merged, packets, Merges, Lists}
-use Rattle.splice.proofs.Lengths.{words-number}
+use Rattle.merge.specs.Pass.{merged, packets, Merges}
+use Rattle.splice.specs.Merging.{Lists}
+use Rattle.merge.proofs.Lengths.{words-number}
 use Rattle.splice.proofs.Passing.{summed}
 use Rattle.splice.proofs.Passes.{merges-all, ends-all, merges-shrink, merges-grow, ends-grow}
 use Rattle.splice.proofs.replacing.merge_all.Statement.{statement}

@@ -8,8 +8,9 @@ use native.Mathlib.Omega.{arith}
 use borrow.Author.Needs.{needs}
 use lib.ListN.{length}
 use Rattle.ump.specs.Edits.{editIn, editsOf, lengths, perEdit}
-use Rattle.splice.specs.Merging.{Within, width, widths}
-use Rattle.splice.proofs.Turning.{rest, rest-all, rest-end, rest-step}
+use Rattle.merge.specs.Pass.{width}
+use Rattle.splice.specs.Merging.{Within, widths}
+use Rattle.merge.proofs.Turning.{rest, rest-all, rest-end, rest-step}
 use Rattle.splice.proofs.replacing.outgrows.Statement.{statement}
 use Rattle.splice.proofs.replacing.outgrows.Tie as tie
 

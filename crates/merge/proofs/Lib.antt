@@ -1,0 +1,13 @@
+pub mod Lengths
+pub mod Shifts
+pub mod Sums
+pub mod Bodies
+pub mod Stores
+pub mod Parts
+pub mod Moves
+pub mod Goings
+pub mod Keeping
+pub mod Running
+pub mod Keeps
+pub mod Turning
+pub mod Merges

@@ -122,8 +122,9 @@ pub fn status_for(packets: usize, packet: usize) -> u8
 pub fn sysex8_size(count: u8) -> usize
     ensures { λ r. ⌜ r ≡ sizeOf sysex8 count ⌝ }
 {
-    match count {
-        1..=14 => (count - 1) as usize,
+    let number = count as usize;
+    match number {
+        1..=14 => number - 1,
         _ => 0,
     }
 }
@@ -132,8 +133,9 @@ pub fn sysex8_size(count: u8) -> usize
 pub fn sysex7_size(count: u8) -> usize
     ensures { λ r. ⌜ r ≡ sizeOf sysex7 count ⌝ }
 {
-    match count {
-        0..=6 => count as usize,
+    let number = count as usize;
+    match number {
+        0..=6 => number,
         _ => 0,
     }
 }

@@ -1,5 +1,6 @@
 -- What the check answers, from what its scan found. Assumes nothing.
 use mathlib.Core.Path.{_≡_, refl, sym, ap, ap₂, _∙_}
+use mathlib.Core.Bool.{Bool, true, false}
 use mathlib.Core.List.{List}
 use Prim.Native.Nat.{ℕ, suc, _-_, _*_, _/_, _<_}
 use native.Mathlib.Nat.{mul-pos, mul-div-right, le-mul-of-pos-right, div-add-mod}
@@ -13,14 +14,22 @@ use Rattle.ump.specs.Check.{check, checked, payloadOf, Summary, Valid, summary}
 use Rattle.ump.proofs.Sizes.{words-pos}
 use Rattle.ump.proofs.Checks.{passes-valid}
 use Rattle.message.specs.declared.scan.Form.{Form}
-use Rattle.message.specs.Scan.{Framed, Inside, Counted, Shaped, orNone, inOrder, sizeFound, no-id, one-id}
+use Rattle.message.specs.Scan.{Framed, Inside, Counted, Shaped, Sound, formOf, shapeOf, orNone, inOrder, sizeFound, no-id, one-id}
 use Rattle.message.proofs.Bounds.{check-framed, payload-framed}
 
-pub shaped8 : Shaped sysex8 (record { stride = 4; kind = 5; least = 1; most = 14; modulus = 256 })
+pub shaped8 : Shaped sysex8 (formOf false)
 shaped8 = record { words-are = refl; type-is = refl; least-is = refl; most-is = refl; ids-are = one-id }
 
-pub shaped7 : Shaped sysex7 (record { stride = 2; kind = 3; least = 0; most = 6; modulus = 1 })
+pub shaped7 : Shaped sysex7 (formOf true)
 shaped7 = record { words-are = refl; type-is = refl; least-is = refl; most-is = refl; ids-are = no-id }
+
+pub shaped : (seven : Bool) → Shaped (shapeOf seven) (formOf seven)
+shaped true = shaped7
+shaped false = shaped8
+
+pub sound : (seven : Bool) → Sound (formOf seven)
+sound true = record { kind-fits = omega arith; some-modulus = omega arith; modulus-fits = omega arith }
+sound false = record { kind-fits = omega arith; some-modulus = omega arith; modulus-fits = omega arith }
 
 -- ---- what a call learns from the check
 

@@ -1,7 +1,7 @@
 -- What the steps of the check answer.
 -- Assumes nothing.
 use mathlib.Core.Path.{_≡_}
-use mathlib.Core.Bool.{Bool, not, cond, _||_}
+use mathlib.Core.Bool.{Bool, true, false, not, cond, _||_}
 use mathlib.Core.List.{List}
 use Prim.Native.Nat.{ℕ, suc, _+_, _-_, _*_, _/_, _%_, _^_, _≤_, _<_}
 use lib.Dec.{eqb, ltb}
@@ -12,7 +12,7 @@ use Rattle.refusal.specs.declared.Fault.{Fault}
 use Rattle.refusal.specs.Meaning.{faultOf}
 use Rattle.message.specs.declared.scan.Form.{Form}
 use Rattle.ump.specs.Word.{nibble}
-use Rattle.ump.specs.Packet.{Shape, payload}
+use Rattle.ump.specs.Packet.{Shape, sysex8, sysex7, payload}
 use Rattle.ump.specs.Packing.{statusFor}
 use Rattle.ump.specs.Limits.{mostWords}
 use Rattle.ump.specs.Check.{firstWhere, check, checkPackets, payloadOf}
@@ -63,6 +63,15 @@ pub record Shaped (shape : Shape) (form : Form) : Type 0 where
   pub least-is : shape .bias ≡ form .least
   pub most-is : shape .room + shape .bias ≡ form .most
   pub ids-are : IdModulus (shape .ids) (form .modulus)
+
+-- the numbers of SysEx7, or of SysEx8, and the shape
+abbrev pub formOf : Bool → Form
+formOf true = record { stride = 2; kind = 3; least = 0; most = 6; modulus = 1 }
+formOf false = record { stride = 4; kind = 5; least = 1; most = 14; modulus = 256 }
+
+abbrev pub shapeOf : Bool → Shape
+shapeOf true = sysex7
+shapeOf false = sysex8
 
 -- they fit a first word
 pub record Sound (form : Form) : Type 0 where

@@ -93,11 +93,12 @@ fn copy_packet(words: &[u32], packet: usize, bytes: &mut [u8], at: usize) -> usi
     requires { ⌜ Fitting (now words) (now bytes) packet at ⌝ }
     ensures { λ r. ⌜ CopiedTo (now (words .entry)) (now (bytes .entry)) (now (bytes .exit)) packet at r ⌝ }
 {
-    let size = layout::sysex8_size(layout::count_of(words[4 * packet]));
-    if size == 13 {
+    let count = layout::count_of(words[4 * packet]);
+    if count == 14 {
         copy_full(words, packet, bytes, at);
         return at + 13;
     }
+    let size = layout::sysex8_size(count);
     let mut byte = 0;
     while byte < size {
         bytes[at + byte] = byte_at(words, packet, byte);

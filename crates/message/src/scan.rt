@@ -5,7 +5,7 @@ ghost use Prim.Native.Nat.{_/_, _<_};
 ghost use Rattle.ump.specs.Packet.{Shape};
 ghost use Rattle.ump.specs.Check.{firstWhere, statusNumber, check, checkPackets};
 ghost use Rattle.refusal.specs.Number.{numberOf};
-ghost use Rattle.message.specs.Scan.{Inside, Packets, otherAt, outOfStep, countOut, faulty, one, Sound, Shaped, inOrder, Explains};
+ghost use Rattle.message.specs.Scan.{Inside, Packets, otherAt, outOfStep, countOut, faulty, one, Shaped, formOf, shapeOf, inOrder, Explains};
 use refusal::Fault;
 use refusal::Refusal;
 
@@ -18,6 +18,7 @@ pub(crate) struct Form {
     pub(crate) modulus: u32,
 }
 
+// Of SysEx8.
 pub(crate) const SYSEX8: Form = Form {
     stride: 4,
     kind: 5,
@@ -26,6 +27,7 @@ pub(crate) const SYSEX8: Form = Form {
     modulus: 256,
 };
 
+// Of SysEx7.
 pub(crate) const SYSEX7: Form = Form {
     stride: 2,
     kind: 3,
@@ -223,12 +225,21 @@ fn at_fault(word: u32, mask: u32, wanted: u32, least: u32, most: u32) -> u32
     0
 }
 
-// One more than the payload size of packets that are all in order, else 0. One pass that adds up faults and counts, with no way
-// out of its loop; the first packet and the last, which have another status, are looked at apart.
-pub(crate) fn in_order(words: &[u32], packets: usize, form: Form) -> usize
-    requires { ⌜ (Inside (form .stride) packets (now words)) × (0 < packets) × Sound form ⌝ }
-    ensures { λ r. ⌜ ((shape : Shape) → Shaped shape form → r ≡ inOrder shape (now (words .entry)) packets) ⌝ }
+// The numbers of SysEx7, or of SysEx8.
+fn form_of(seven: bool) -> Form
+    ensures { λ r. ⌜ r ≡ formOf seven ⌝ }
 {
+    if seven { SYSEX7 } else { SYSEX8 }
+}
+
+// One more than the payload size of packets that are all in order, else 0. One pass that adds up faults and counts, with no way
+// out of its loop; the first packet and the last, which have another status, are looked at apart. The shape is a value here, not
+// the struct, so that the pass is compiled for each of the two.
+pub(crate) fn in_order(words: &[u32], packets: usize, seven: bool) -> usize
+    requires { ⌜ (Inside (formOf seven .stride) packets (now words)) × (0 < packets) ⌝ }
+    ensures { λ r. ⌜ r ≡ inOrder (shapeOf seven) (now (words .entry)) packets ⌝ }
+{
+    let form = form_of(seven);
     let first = words[0];
     let mask = 0xFFF0_0000 + (form.modulus - 1) * 0x100;
     let base = form.kind * 0x1000_0000

@@ -30,7 +30,7 @@ fn size_found(words: &[u32], length: usize) -> usize
     if packets == 0 {
         return 0;
     }
-    in_order(words, packets, SYSEX7)
+    in_order(words, packets, true)
 }
 
 // Why the message is refused.

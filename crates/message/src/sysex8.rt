@@ -36,7 +36,7 @@ fn size_found(words: &[u32], length: usize) -> usize
     if packets == 0 {
         return 0;
     }
-    in_order(words, packets, SYSEX8)
+    in_order(words, packets, false)
 }
 
 // Why the message is refused.

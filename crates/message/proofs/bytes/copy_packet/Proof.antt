@@ -7,31 +7,31 @@ use native.Mathlib.Omega.{arith}
 use lib.ListN.{length, getD, length-set}
 use lib.Seq.{paste, paste-zero, paste-suc}
 use Rattle.ump.specs.Packet.{sysex8, sizeOf, sizeAt, countAt, payloadAt}
-use Rattle.ump.proofs.Sizes.{size-small}
+use Rattle.ump.proofs.Sizes.{size-of-count, size-small}
 use Rattle.ump.proofs.Bytes.{length-payloadAt, getD-payloadAt}
 use Rattle.message.proofs.bytes.copy_packet.Statement.{statement}
 use Rattle.message.proofs.bytes.copy_packet.Tie as tie
 
 abbrev Inv-loop : tie.InvT-loop
-Inv-loop words packet bytes₀ at size byte₀ bytes byte =
+Inv-loop words packet bytes₀ at count size byte₀ bytes byte =
     (byte ≤ size) × (length bytes ≡ length bytes₀) × (bytes ≡ paste bytes₀ at (payloadAt sysex8 words packet) byte)
 
 abbrev μ-loop : tie.MeasureT-loop
-μ-loop words packet bytes₀ at size byte₀ bytes byte = size - byte
+μ-loop words packet bytes₀ at count size byte₀ bytes byte = size - byte
 
 -- the size that the code reads
-size-read : (c : tie.After-sysex8-size Inv-loop μ-loop) → let d = c .before .before .before .before .before in
+size-read : (c : tie.After-sysex8-size Inv-loop μ-loop) → let d = c .before .before .before .before .before .before in
     c .sysex8-size .result ≡ sizeAt sysex8 (d .args .words .now) (d .args .packet)
-size-read c = c .sysex8-size .ensures ∙ ap (sizeOf sysex8) (c .before .count-of .ensures)
+size-read c = c .sysex8-size .ensures ∙ ap (sizeOf sysex8) (c .before .before .count-of .ensures)
 
-full : (c : tie.Then1 Inv-loop μ-loop) → let d = c .before .before .before .before .before .before in
+full : (c : tie.Then1 Inv-loop μ-loop) → let d = c .before .before .before .before .before in
     sizeAt sysex8 (d .args .words .now) (d .args .packet) ≡ 13
-full c = sym (size-read (c .before)) ∙ c .if1 .taken
+full c = ap (sizeOf sysex8) (sym (c .before .count-of .ensures) ∙ c .if1 .taken) ∙ size-of-count sysex8 14 (omega arith)
 
 -- a byte in the loop is one of the packet
 of-packet : (c : tie.In-loop Inv-loop μ-loop) → let d = c .before .before .before .before .before .before .before .before in
     c .before .loop .byte < sizeAt sysex8 (d .args .words .now) (d .args .packet)
-of-packet c = rw (size-read (c .before .before .before)) at (c .loop-test .taken)
+of-packet c = rw (size-read (c .before .before)) at (c .loop-test .taken)
 
 small-byte : (c : tie.In-loop Inv-loop μ-loop) → c .before .loop .byte < 13
 small-byte c =
@@ -60,8 +60,8 @@ loop-again c =
 returns-2 : tie.Need-returns-2 Inv-loop μ-loop
 returns-2 c =
     let l = c .before in
-    let s = l .before .before in
-    let d = s .before .before .before .before .before in
+    let s = l .before in
+    let d = s .before .before .before .before .before .before in
     let e : l .loop .byte ≡ sizeAt sysex8 (d .args .words .now) (d .args .packet) = omega (arith, size-read s, l .loop .inv .0, c .loop-test .left) in
     (ap (λ (k : ℕ). d .args .at + k) (size-read s), rw e at (l .loop .inv .2))
 
@@ -75,11 +75,11 @@ copy-packet-spec =
     (λ c. search needs)
     (λ c. search needs)
     (λ c κs. search needs)
-    (λ c κs. search needs)
-    (λ c κs. (c .before .before .before .before .before .before .before .pre, full (c .before)))
-    (λ c. let t = c .before .before .before .before in omega (arith, t .before .before .before .before .before .before .pre .room, full t))
+    (λ c κs. (c .before .before .before .before .before .before .pre, full (c .before)))
+    (λ c. let t = c .before .before .before .before in omega (arith, t .before .before .before .before .before .pre .room, full t))
     (λ c. search needs)
-    (λ c. let f = c .before .before in (ap (λ (k : ℕ). f .before .before .before .before .before .before .before .before .args .at + k) (sym (full (f .before .before))), f .copy-full .ensures))
+    (λ c. let f = c .before .before in (ap (λ (k : ℕ). f .before .before .before .before .before .before .before .args .at + k) (sym (full (f .before .before))), f .copy-full .ensures))
+    (λ c κs. search needs)
     (λ c. let d = c .before .before .before .before .before .before in (omega arith, refl, paste-zero (d .args .bytes .now) (d .args .at) (payloadAt sysex8 (d .args .words .now) (d .args .packet))))
     (λ c κs. let d = c .before .before .before .before .before .before .before .before in (d .pre .there, d .pre .few, small-byte c))
     (λ c. omega (arith, in-bytes c))
@@ -87,6 +87,6 @@ copy-packet-spec =
     (λ c. omega (arith, small-byte (c .before)))
     (λ c. omega (arith, c .before .loop-test .taken))
     loop-again
-    (λ c. let s = c .before .before .before in omega (arith, s .before .before .before .before .before .pre .room, size-read s))
+    (λ c. let s = c .before .before in omega (arith, s .before .before .before .before .before .before .pre .room, size-read s))
     (λ c. c .before .loop .inv .1)
     returns-2)

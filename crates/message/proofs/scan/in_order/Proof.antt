@@ -1,6 +1,6 @@
 -- `message::scan::in_order`: faults and counts of the packets passed are added up. Assumes nothing.
 use borrow.Author.Needs.{needs}
-use mathlib.Core.Path.{_≡_, refl, sym, ap, _∙_}
+use mathlib.Core.Path.{_≡_, refl, sym, ap, subst, _∙_}
 use Prim.Native.Nat.{ℕ, _+_, _-_, _*_, _%_, _^_, _≤_, _<_}
 use native.Mathlib.Omega.{arith}
 use lib.Bits.{bitAnd}
@@ -10,31 +10,48 @@ use Rattle.ump.specs.Edits.{total}
 use Rattle.ump.proofs.Sizes.{status-small}
 use Rattle.ump.proofs.Moving.{total-ge}
 use Rattle.message.proofs.Laws.{Here, here, begins}
+use Rattle.message.specs.declared.scan.Form.{Form}
+use Rattle.message.specs.Scan.{Inside, Shaped, Sound, shapeOf}
 use Rattle.message.proofs.Masks.{maskFor}
+use Rattle.message.proofs.Checked.{shaped, sound}
 use Rattle.message.proofs.InOrder.{Pass, Summed, baseOf, faultAt, countedAt, fault-first, fault-inner, fault-last, fault-small, counts-enough, counts-reach, count-first, summed-start, summed-more, summed-all, summed-small, some-fault, no-fault, alone}
 use Rattle.message.proofs.scan.in_order.Statement.{statement}
 use Rattle.message.proofs.scan.in_order.Tie as tie
 
 abbrev Inv-loop : tie.InvT-loop
-Inv-loop words packets form first mask base start counts₀ last end bad₀ packet₀ counts bad packet =
+Inv-loop words packets seven form first mask base start counts₀ last end bad₀ packet₀ counts bad packet =
     Summed (record { form = form; words = words; packets = packets }) last packet bad counts
 
 abbrev μ-loop : tie.MeasureT-loop
-μ-loop words packets form first mask base start counts₀ last end bad₀ packet₀ counts bad packet = last - packet
+μ-loop words packets seven form first mask base start counts₀ last end bad₀ packet₀ counts bad packet = last - packet
 
 -- what the pass is given
-abbrev given : tie.Start Inv-loop μ-loop → Pass
-given d = record { form = d .args .form; words = d .args .words .now; packets = d .args .packets }
+abbrev given : tie.After-form-of Inv-loop μ-loop → Pass
+given f = let a = f .before .before .args in record { form = f .form-of .result; words = a .words .now; packets = a .packets }
 
-small : (c : tie.After-shared-slice-known2 Inv-loop μ-loop) (i : ℕ) → getD (c .before .before .args .words .now) i 0 < 2 ^ 32
+inside : (f : tie.After-form-of Inv-loop μ-loop) → let k = given f in Inside (k .form .stride) (k .packets) (k .words)
+inside f =
+    let d = f .before .before in
+    subst (λ (form : Form). Inside (form .stride) (d .args .packets) (d .args .words .now)) (sym (f .form-of .ensures)) (d .pre .0)
+
+some : (f : tie.After-form-of Inv-loop μ-loop) → 0 < given f .packets
+some f = f .before .before .pre .1
+
+of-shape : (f : tie.After-form-of Inv-loop μ-loop) → Shaped (shapeOf (f .before .before .args .seven)) (f .form-of .result)
+of-shape f = rw (f .form-of .ensures) (shaped (f .before .before .args .seven))
+
+fits : (f : tie.After-form-of Inv-loop μ-loop) → Sound (f .form-of .result)
+fits f = rw (f .form-of .ensures) (sound (f .before .before .args .seven))
+
+small : (c : tie.After-shared-slice-known2 Inv-loop μ-loop) (i : ℕ) → getD (given (c .before) .words) i 0 < 2 ^ 32
 small c i = omega (arith, c .shared-slice-known2 .given i)
 
--- from the place where the group is read: where the words are first known, where the call begins, and the number that is wanted
+-- from the place where the group is read: where the words are first known, where the numbers are, and the number that is wanted
 abbrev known : tie.After-group-of Inv-loop μ-loop → tie.After-shared-slice-known2 Inv-loop μ-loop
 known g = g .before .before .before
 
-abbrev start : tie.After-group-of Inv-loop μ-loop → tie.Start Inv-loop μ-loop
-start g = known g .before .before
+abbrev start : tie.After-group-of Inv-loop μ-loop → tie.After-form-of Inv-loop μ-loop
+start g = known g .before
 
 wanted : (g : tie.After-group-of Inv-loop μ-loop) → let k = given (start g) in
     k .form .kind * 2 ^ 28 + g .group-of .result * 2 ^ 24 + bitAnd (getD (k .words) 0 0) (maskFor (k .form .modulus)) % 2 ^ 16 ≡ baseOf k
@@ -51,11 +68,11 @@ first-clear : (c : tie.Else1 Inv-loop μ-loop) → faultAt (given (start (c .bef
 first-clear c = sym (first-is (c .before)) ∙ c .if1 .left
 
 returns : tie.Need-returns Inv-loop μ-loop
-returns c s h =
+returns c =
     let f = c .before in
     let g = f .before .before in
     let d = start g in
-    some-fault s (given d) h (small (known g)) (λ z. c .if1 .taken (omega (arith, first-is f, total-ge (faultAt (given d)) (d .args .packets) 0 (d .pre .1))))
+    some-fault _ (given d) (of-shape d) (small (known g)) (λ z. c .if1 .taken (omega (arith, first-is f, total-ge (faultAt (given d)) (given d .packets) 0 (some d))))
 
 enough : tie.Need-sub-result Inv-loop μ-loop
 enough c =
@@ -64,11 +81,11 @@ enough c =
     omega (arith, counts-enough k 0 (first-clear (f .before)), count-first k, f .count-of .ensures)
 
 returns-2 : tie.Need-returns-2 Inv-loop μ-loop
-returns-2 c s h =
+returns-2 c =
     let f = c .before .before in
     let g = f .before .before .before .before in
     let d = start g in
-    rw (f .count-of .ensures) (alone s (given d) h (small (known g)) (d .pre .0) (omega (arith, d .pre .1, c .before .if2 .taken)) (first-clear (f .before)))
+    rw (f .count-of .ensures) (alone _ (given d) (of-shape d) (small (known g)) (inside d) (omega (arith, some d, c .before .if2 .taken)) (first-clear (f .before)))
 
 -- ---- the last, and those in the loop
 
@@ -79,8 +96,8 @@ abbrev begun : tie.At-loop Inv-loop μ-loop → tie.After-group-of Inv-loop μ-l
 begun c = grouped (c .before)
 
 at-end : (c : tie.Else2 Inv-loop μ-loop) → let d = start (c .before .before .before .before .before) in
-    Here (d .args .form .stride) (d .args .packets - 1) (d .args .words .now)
-at-end c = let d = start (c .before .before .before .before .before) in here (d .args .packets - 1) (d .pre .0) (omega (arith, d .pre .1))
+    let k = given d in Here (k .form .stride) (k .packets - 1) (k .words)
+at-end c = let d = start (c .before .before .before .before .before) in here (given d .packets - 1) (inside d) (omega (arith, some d))
 
 loop-holds : tie.Need-loop-holds Inv-loop μ-loop
 loop-holds c =
@@ -88,12 +105,12 @@ loop-holds c =
     let d = start g in
     let e = c .before .before .before .before in
     let f = e .before in
-    let more : 0 < d .args .packets - 1 = omega (arith, e .if2 .left) in
-    summed-start more (first-clear (f .before)) (c .before .at-fault2 .ensures ∙ fault-last (given d) (wanted g) (d .args .packets - 1) more (omega arith))
+    let more : 0 < given d .packets - 1 = omega (arith, e .if2 .left) in
+    summed-start more (first-clear (f .before)) (c .before .at-fault2 .ensures ∙ fault-last (given d) (wanted g) (given d .packets - 1) more (omega arith))
     (omega (arith, count-first (given d), f .count-of .ensures, c .count-of2 .ensures))
 
-at : (c : tie.In-loop Inv-loop μ-loop) → let d = start (begun (c .before)) in Here (d .args .form .stride) (c .before .loop .packet) (d .args .words .now)
-at c = here (c .before .loop .packet) (start (begun (c .before)) .pre .0) (omega (arith, c .loop-test .taken))
+at : (c : tie.In-loop Inv-loop μ-loop) → let k = given (start (begun (c .before))) in Here (k .form .stride) (c .before .loop .packet) (k .words)
+at c = here (c .before .loop .packet) (inside (start (begun (c .before)))) (omega (arith, c .loop-test .taken))
 
 inner-is : (c : tie.After-at-fault3 Inv-loop μ-loop) → let l = c .before .before .before .before in
     c .at-fault3 .result ≡ faultAt (given (start (begun l))) (l .loop .packet)
@@ -118,24 +135,24 @@ loop-again c =
 
 all : (c : tie.After-loop Inv-loop μ-loop) → let k = given (start (begun (c .before))) in
     (c .before .loop .bad ≡ total (faultAt k) (k .packets)) × (c .before .loop .counts ≡ total (countedAt k) (k .packets))
-all c = summed-all (c .before .loop .inv) (c .loop-test .left) (omega (arith, start (begun (c .before)) .pre .1))
+all c = summed-all (c .before .loop .inv) (c .loop-test .left) (omega (arith, some (start (begun (c .before)))))
 
 returns-3 : tie.Need-returns-3 Inv-loop μ-loop
-returns-3 c s h =
+returns-3 c =
     let e = c .before in
     let g = begun (e .before) in
-    some-fault s (given (start g)) h (small (known g)) (λ z. c .if3 .taken (all e .0 ∙ z))
+    some-fault _ (given (start g)) (of-shape (start g)) (small (known g)) (λ z. c .if3 .taken (all e .0 ∙ z))
 
 returns-4 : tie.Need-returns-4 Inv-loop μ-loop
-returns-4 c s h =
+returns-4 c =
     let k = c .before in
     let e = k .before in
     let g = begun (e .before) in
-    rw (all e .1) (no-fault s (given (start g)) h (small (known g)) (start g .pre .0) (sym (all e .0) ∙ k .if3 .left))
+    rw (all e .1) (no-fault _ (given (start g)) (of-shape (start g)) (small (known g)) (inside (start g)) (sym (all e .0) ∙ k .if3 .left))
 
 -- the counts reach what is taken away, and are few
 reach : (c : tie.Else3 Inv-loop μ-loop) → let l = c .before .before in
-    (start (begun l) .args .form .least * start (begun l) .args .packets ≤ l .loop .counts) × (l .loop .counts ≤ 15 * mostWords)
+    (given (start (begun l)) .form .least * given (start (begun l)) .packets ≤ l .loop .counts) × (l .loop .counts ≤ 15 * mostWords)
 reach c =
     let e = c .before in
     let l = e .before in (
@@ -149,20 +166,21 @@ in-order-spec =
     (tie.spec
     Inv-loop
     μ-loop
-    (λ c. begins (c .before .before .pre .0) (c .before .before .pre .1))
-    (λ c. search needs)
-    (λ c. search needs)
-    (λ c. search needs)
-    (λ c. search needs)
+    (λ c κs. search needs)
+    (λ c. begins (inside (c .before)) (some (c .before)))
+    (λ c. omega (arith, fits (c .before .before)))
+    (λ c. omega (arith, fits (c .before .before)))
+    (λ c. omega (arith, fits (c .before .before)))
+    (λ c. omega (arith, fits (c .before .before .before)))
     (λ c κs. search needs)
     (λ c. search needs)
     (λ c. search needs)
-    (λ c. search needs)
-    (λ c. search needs)
+    (λ c. omega (arith, c .group-of .ensures, fits (start c)))
+    (λ c. omega (arith, c .group-of .ensures, fits (start c)))
     (λ c κs. search needs)
     (λ c. search needs)
-    (λ c. omega (arith, c .status-for .ensures, status-small (start (c .before) .args .packets) 0))
-    (λ c. omega (arith, c .status-for .ensures, status-small (start (c .before) .args .packets) 0, c .before .group-of .ensures, start (c .before) .pre .2))
+    (λ c. omega (arith, c .status-for .ensures, status-small (given (start (c .before)) .packets) 0))
+    (λ c. omega (arith, c .status-for .ensures, status-small (given (start (c .before)) .packets) 0, c .before .group-of .ensures, fits (start (c .before))))
     (λ c κs. search needs)
     returns
     (λ c κs. search needs)
@@ -175,7 +193,7 @@ in-order-spec =
     (λ c. at-end (c .before) .fits)
     (λ c. at-end (c .before) .bytes-fit)
     (λ c. at-end (c .before .before) .index)
-    (λ c. let g = c .before .before .before .before .before .before .before in omega (arith, g .group-of .ensures, start g .pre .2))
+    (λ c. let g = c .before .before .before .before .before .before .before in omega (arith, g .group-of .ensures, fits (start g)))
     (λ c κs. search needs)
     (λ c κs. search needs)
     (λ c. search needs)
@@ -184,7 +202,7 @@ in-order-spec =
     (λ c. at (c .before) .fits)
     (λ c. at (c .before) .bytes-fit)
     (λ c. at (c .before .before) .index)
-    (λ c. let g = begun (c .before .before .before) in omega (arith, g .group-of .ensures, start g .pre .2))
+    (λ c. let g = begun (c .before .before .before) in omega (arith, g .group-of .ensures, fits (start g)))
     (λ c κs. search needs)
     few
     (λ c κs. search needs)

@@ -13,5 +13,5 @@ size-found-spec =
     (tie.spec
     (λ c κs. search needs)
     (λ c. found-unframed sysex7 shaped7 _ _ (c .before .packets-of .ensures .none (c .if1 .taken)))
-    (λ c κs. let f = c .before .packets-of .ensures .some (c .if1 .left) in (framed-inside _ f (search needs), some-packet f (search needs), search needs))
-    (λ c. let e = c .before in c .in-order .ensures sysex7 shaped7 ∙ found-framed sysex7 shaped7 _ _ (e .before .packets-of .ensures .some (e .if1 .left))))
+    (λ c κs. let f = c .before .packets-of .ensures .some (c .if1 .left) in (framed-inside _ f (search needs), some-packet f (search needs)))
+    (λ c. let e = c .before in c .in-order .ensures ∙ found-framed sysex7 shaped7 _ _ (e .before .packets-of .ensures .some (e .if1 .left))))

@@ -119,23 +119,21 @@ pub fn status_for(packets: usize, packet: usize) -> u8
 }
 
 // The payload bytes that a count of SysEx8 carries: one fewer, and none for a count out of range.
-pub fn sysex8_size(count: u8) -> usize
+pub fn sysex8_size(count: usize) -> usize
     ensures { λ r. ⌜ r ≡ sizeOf sysex8 count ⌝ }
 {
-    let number = count as usize;
-    match number {
-        1..=14 => number - 1,
+    match count {
+        1..=14 => count - 1,
         _ => 0,
     }
 }
 
 // The payload bytes that a count of SysEx7 carries: as many, and none for a count out of range.
-pub fn sysex7_size(count: u8) -> usize
+pub fn sysex7_size(count: usize) -> usize
     ensures { λ r. ⌜ r ≡ sizeOf sysex7 count ⌝ }
 {
-    let number = count as usize;
-    match number {
-        0..=6 => number,
+    match count {
+        0..=6 => count,
         _ => 0,
     }
 }

@@ -10,7 +10,8 @@ use lib.Dec.{ltb}
 use lib.ListN.{length, getD, length-append}
 use borrow.Author.Tests.{lt-ltb, le-ltb}
 use Rattle.ump.specs.Word.{nibble}
-use Rattle.ump.specs.Packet.{Shape, sysex8, countAt, sizeAt, payloadAt, joined, payload}
+use Rattle.ump.specs.Packet.{Shape, countAt, sizeAt, payloadAt, joined, payload}
+use Rattle.ump.specs.Limits.{mostWords}
 use Rattle.ump.specs.Edits.{total}
 use Rattle.ump.specs.Setters.{packetOf, byteIn}
 use Rattle.ump.proofs.First.{first-is, Passed, passed-zero, passed-one, passed-here, first-cong, first-le, Side, under, over, side}
@@ -117,6 +118,11 @@ module _ (stride least room : ℕ) (ws : List ℕ) (last : ℕ) (counted : Count
           lt-ltb i _ (rw q at h)
 
 -- of a SysEx8 message
+pub size-few : {ws : List ℕ} {n size : ℕ} → Sized ws n size → size ≤ 16 * mostWords
+unfolding sizeTo
+size-few {ws} {n} m =
+    omega (arith, m .size-is, m .inside .few, total-most (λ p. nibble (getD ws (4 * p) 0) 3 - 1) 13 n (λ p l. omega (arith, m .counted p l .1)))
+
 module _ {ws : List ℕ} {n size i : ℕ} (m : Sized ws n size) (h : i < size) where
   pub below-size : i < sizeTo 4 1 ws n
   below-size = rw (m .size-is) at h
@@ -124,12 +130,12 @@ module _ {ws : List ℕ} {n size i : ℕ} (m : Sized ws n size) (h : i < size) w
   pub some-packet : 0 < n
   some-packet = seek-below below-size (seek-start {i = i})
 
-  pub at-once : size ≡ 13 * (n - 1) + sizeAt sysex8 ws (n - 1) → Found 4 1 ws n i (i / 13) (i % 13)
-  at-once e =
+  pub at-once : size + 1 ≡ 13 * (n - 1) + nibble (getD ws (4 * (n - 1)) 0) 3 → Found 4 1 ws n i (i / 13) (i % 13)
+  at-once full =
       let q : n ≡ suc (n - 1) = omega (arith, some-packet) in
-      let c : sizeAt sysex8 ws (n - 1) ≡ nibble (getD ws (4 * (n - 1)) 0) 3 - 1 = size-of-count sysex8 (countAt sysex8 ws (n - 1)) (m .counted (n - 1) (omega (arith, some-packet)) .1) in
+      let e : size ≡ 13 * (n - 1) + (nibble (getD ws (4 * (n - 1)) 0) 3 - 1) = omega (arith, m .counted (n - 1) (omega (arith, some-packet)) .0) in
       subst (λ (k : ℕ). Found 4 1 ws k i (i / 13) (i % 13)) (sym q)
-      (found-full 4 1 13 ws (n - 1) (λ p l. m .counted p (omega arith)) (rw (← q, ← c) (sym (m .size-is) ∙ e)) (rw (← q) below-size) (omega arith) (omega arith))
+      (found-full 4 1 13 ws (n - 1) (λ p l. m .counted p (omega arith)) (rw (← q) (sym (m .size-is) ∙ e)) (rw (← q) below-size) (omega arith) (omega arith))
 
 -- ---- for a shape, these are the sizes of its payload
 

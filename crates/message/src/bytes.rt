@@ -36,8 +36,8 @@ pub(crate) fn place_of(words: &[u32], packets: usize, size: usize, index: usize)
     ensures { λ r. ⌜ Found 4 1 (now (words .entry)) packets index (r .packet) (r .byte) ⌝ }
 {
     let last = packets - 1;
-    let carried = layout::sysex8_size(layout::count_of(words[4 * last]));
-    if size == 13 * last + carried {
+    let count = layout::count_of(words[4 * last]) as usize;
+    if size + 1 == 13 * last + count {
         return Place {
             packet: index / 13,
             byte: index % 13,
@@ -93,7 +93,7 @@ fn copy_packet(words: &[u32], packet: usize, bytes: &mut [u8], at: usize) -> usi
     requires { ⌜ Fitting (now words) (now bytes) packet at ⌝ }
     ensures { λ r. ⌜ CopiedTo (now (words .entry)) (now (bytes .entry)) (now (bytes .exit)) packet at r ⌝ }
 {
-    let count = layout::count_of(words[4 * packet]);
+    let count = layout::count_of(words[4 * packet]) as usize;
     if count == 14 {
         copy_full(words, packet, bytes, at);
         return at + 13;

@@ -26,7 +26,7 @@ pub enum PacketRead {
 }
 
 // What the status says: the count is payload size, so 0 to 6; Count for the rest, then Status.
-fn decide(status: u8, count: u8) -> Decided
+fn decide(status: u8, count: usize) -> Decided
     ensures { λ r. ⌜ decidedMeaning r ≡ counted sysex7 status count ⌝ }
 {
     match count {
@@ -52,7 +52,7 @@ pub fn read_packet(words: &[u32]) -> PacketRead
             place: 0,
         });
     }
-    let decided = decide(layout::status_of(word), layout::count_of(word));
+    let decided = decide(layout::status_of(word), layout::count_of(word) as usize);
     match decided {
         Decided::Kind(kind, size) => PacketRead::Packet(Packet {
             kind,

@@ -48,7 +48,7 @@ fn is_blank(words: &[u32]) -> bool
 }
 
 // What the status says: the count is payload size plus one, so 1 to 14; Count for the rest.
-fn counted_kind(status: u8, count: u8) -> Decided
+fn counted_kind(status: u8, count: usize) -> Decided
     ensures { λ r. ⌜ decidedMeaning r ≡ counted sysex8 status count ⌝ }
 {
     match count {
@@ -58,7 +58,7 @@ fn counted_kind(status: u8, count: u8) -> Decided
 }
 
 // An end packet of zeros: unexpected at count 1, earlier data valid, and at count 15, invalid; Count for the rest.
-fn blank_end(count: u8) -> Decided
+fn blank_end(count: usize) -> Decided
     ensures { λ r. ⌜ decidedMeaning r ≡ decide8 3 count true ⌝ }
 {
     match count {
@@ -69,7 +69,7 @@ fn blank_end(count: u8) -> Decided
 }
 
 // The status nibble and the zero octets decide the kind; Status, then Count.
-fn decide(status: u8, count: u8, blank: bool) -> Decided
+fn decide(status: u8, count: usize, blank: bool) -> Decided
     ensures { λ r. ⌜ decidedMeaning r ≡ decide8 status count blank ⌝ }
 {
     match status {
@@ -104,7 +104,7 @@ pub fn read_packet(words: &[u32]) -> PacketRead
     }
     let decided = decide(
         layout::status_of(word),
-        layout::count_of(word),
+        layout::count_of(word) as usize,
         is_blank(words),
     );
     match decided {

@@ -35,7 +35,7 @@ fn standing(words: &[u32], packet: usize, byte: usize) -> usize
     requires { ⌜ packet < length (now words) / 4 ⌝ }
     ensures { λ r. ⌜ r ≡ sizeAt sysex8 (now (words .entry)) packet - byte ⌝ }
 {
-    let size = layout::sysex8_size(layout::count_of(words[4 * packet]));
+    let size = layout::sysex8_size(layout::count_of(words[4 * packet]) as usize);
     if byte < size { size - byte } else { 0 }
 }
 

@@ -75,6 +75,7 @@ copy-packet-spec =
     (λ c. search needs)
     (λ c. search needs)
     (λ c κs. search needs)
+    (λ c. search needs)
     (λ c κs. (c .before .before .before .before .before .before .pre, full (c .before)))
     (λ c. let t = c .before .before .before .before in omega (arith, t .before .before .before .before .before .pre .room, full t))
     (λ c. search needs)

@@ -2,20 +2,13 @@
 use borrow.Author.Needs.{needs}
 use Prim.Native.Nat.{_-_}
 use native.Mathlib.Omega.{arith}
-use mathlib.Core.Path.{_≡_, ap, _∙_}
-use Rattle.ump.specs.Packet.{sysex8, sizeOf, sizeAt}
-use Rattle.ump.proofs.Sizes.{size-small}
 use Rattle.message.proofs.Laws.{Here, here}
-use Rattle.message.proofs.Sizes.{some-packet, at-once}
+use Rattle.message.proofs.Sizes.{size-few, some-packet, at-once}
 use Rattle.message.proofs.bytes.place_of.Statement.{statement}
 use Rattle.message.proofs.bytes.place_of.Tie as tie
 
 at-end : (c : tie.After-shared-slice-known) → Here 4 (c .before .args .packets - 1) (c .before .args .words .now)
 at-end c = let p = c .before .pre in here _ (p .0 .inside) (omega (arith, some-packet (p .0) (p .1)))
-
-carried-is : (c : tie.After-sysex8-size) → let d = c .before .before .before .before in
-    c .sysex8-size .result ≡ sizeAt sysex8 (d .args .words .now) (d .args .packets - 1)
-carried-is c = c .sysex8-size .ensures ∙ ap (sizeOf sysex8) (c .before .count-of .ensures)
 
 pub place-of-spec : {M : Type 1} → statement M
 place-of-spec =
@@ -26,9 +19,10 @@ place-of-spec =
     (λ c. search needs)
     (λ c. at-end (c .before) .index)
     (λ c κs. search needs)
-    (λ c κs. search needs)
     (λ c. search needs)
-    (λ c. omega (arith, at-end (c .before .before .before) .number, c .sysex8-size .ensures, size-small sysex8 (c .before .count-of .result)))
-    (λ c. let p = c .before .before .before .before .before .pre in at-once (p .0) (p .1) (rw (carried-is (c .before)) at (c .if1 .taken)))
-    (λ c κs. c .before .before .before .before .before .pre)
+    (λ c. omega (arith, size-few (c .before .before .before .pre .0)))
+    (λ c. omega (arith, at-end (c .before .before) .number))
+    (λ c. omega (arith, at-end (c .before .before) .number, c .count-of .ensures))
+    (λ c. let k = c .before in let p = k .before .before .before .pre in at-once (p .0) (p .1) (rw (k .count-of .ensures) at (c .if1 .taken)))
+    (λ c κs. c .before .before .before .before .pre)
     (λ c. search needs))

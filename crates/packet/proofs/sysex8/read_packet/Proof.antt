@@ -33,6 +33,7 @@ read-packet-spec =
     (λ c. foreign reader8 _ (c .before .before .before .if1 .left) (rw (c .before .type-of .ensures) at (c .if2 .taken)))
     (λ c κs. search needs)
     (λ c κs. search needs)
+    (λ c. search needs)
     (λ c κs. search needs)
     (λ c κs. search needs)
     (λ c. search needs)

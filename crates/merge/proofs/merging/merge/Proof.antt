@@ -42,7 +42,7 @@ needed-is : (b : tie.After-begin-of Inv-loop μ-loop) → b .before .before .wor
 needed-is b = packets-are _ _ (b .before .before .words-needed2 .ensures)
 
 lag-is : (b : tie.After-begin-of Inv-loop μ-loop) → b .before .over .result ≡ packets (to-start b .args .total) - packets (to-start b .args .size)
-lag-is b = b .before .over .ensures ∙ rw (held-is b, needed-is b)
+lag-is b = omega (arith, b .before .over .ensures, held-is b, needed-is b)
 
 -- the pass that begins, whatever payload stands in the words
 begun : (c : tie.After-packet-of Inv-loop μ-loop) → let b = to-begin c in let x = to-start b .args in (source : List ℕ)

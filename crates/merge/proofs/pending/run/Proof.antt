@@ -39,7 +39,8 @@ returns-3 : tie.Need-returns-3
 returns-3 c =
     let st = c .before .before .before .before .before in
     let x = st .args in
-    rw (c .nothing2 .ensures) (ran-there (x .head) (x .lag) (x .first) (x .last) (x .pending) (x .words .now) (st .pre .1 .1 .fits) (c .before .before .if1 .left) (st .pre .0) (c .before .if2 .left))
+    let in-place : x .pending .packet ≡ x .first + x .lag = omega (arith, c .before .if2 .left) in
+    rw (c .nothing2 .ensures) (ran-there (x .head) (x .lag) (x .first) (x .last) (x .pending) (x .words .now) (st .pre .1 .1 .fits) (c .before .before .if1 .left) (st .pre .0) in-place)
 
 pub run-spec : {M : Type 1} → statement M
 run-spec =

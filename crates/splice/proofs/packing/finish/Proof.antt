@@ -6,6 +6,7 @@ use borrow.Author.Needs.{needs}
 use Rattle.ump.specs.Packet.{sysex8}
 use Rattle.ump.specs.Packing.{packetsFor}
 use Rattle.ump.proofs.Sizes.{packets-pos}
+use Rattle.splice.specs.Zeros.{zeroed}
 use Rattle.splice.proofs.packing.finish.Statement.{statement}
 use Rattle.splice.proofs.packing.finish.Tie as tie
 
@@ -21,7 +22,9 @@ returns c =
     let z = c .before .before in
     let l = z .before .before .before .before in
     let f = l .before .before .before .before .before in
-    z .zero .ensures ∙ rw (l .put-head2 .ensures, l .before .head2 .ensures .0, f .put-head .ensures, f .before .head .ensures .0)
+    let x = f .before .before .before .before .args in
+    let zeros : z .zero .last .0 ≡ zeroed (l .put-head2 .last .0) (x .end) (x .old) = z .zero .ensures in
+    zeros ∙ rw (l .put-head2 .ensures, l .before .head2 .ensures .0, f .put-head .ensures, f .before .head .ensures .0)
 
 pub finish-spec : {M : Type 1} → statement M
 finish-spec =

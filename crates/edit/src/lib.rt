@@ -1,6 +1,7 @@
 // Edits of a payload: growth, moving a pending edit past a done one, all edits of a list at once, and where an octet then comes from.
 ghost use mathlib.Core.Path.{_≡_};
 ghost use Prim.Native.Nat.{_≤_};
+ghost use Rattle.ump.specs.Limits.{mostBytes};
 ghost use Rattle.ump.specs.Edits.{growth, badEdit, movedPast, moveEdit};
 ghost use Rattle.edit.specs.Meaning.{editMeaning, grownMeaning, movedMeaning};
 ghost use Rattle.edit.specs.Growth.{growthOf, Sound};
@@ -72,7 +73,7 @@ fn growth_of(edit: Edit) -> i64
 
 // A place behind a done edit, moved by its growth.
 fn moved_past(done: Edit, place: usize) -> usize
-    requires { ⌜ (Sound (editMeaning done)) × (done .to ≤ place) × (place ≤ 53248) ⌝ }
+    requires { ⌜ (Sound (editMeaning done)) × (done .to ≤ place) × (place ≤ mostBytes) ⌝ }
     ensures { λ r. ⌜ r ≡ movedPast (editMeaning done) place ⌝ }
 {
     (place as i64 + growth_of(done)) as usize

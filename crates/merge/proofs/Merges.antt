@@ -5,6 +5,7 @@ use mathlib.Core.List.{List, _∷_}
 use Prim.Native.Nat.{ℕ, suc, _+_, _-_, _*_, _/_, _%_, _^_, _≤_, _<_}
 use native.Mathlib.Omega.{arith}
 use lib.ListN.{length, getD, take, drop}
+use Rattle.ump.specs.Limits.{mostWords, mostBytes}
 use Rattle.ump.specs.Word.{Below}
 use Rattle.ump.specs.Packet.{sysex8}
 use Rattle.ump.specs.Packing.{packetsFor}
@@ -73,7 +74,7 @@ pub record Pass (w : List ℕ) (head size total lag : ℕ) (numbers bytes : List
   pub long : length (merged shrunk grow 0 (editsOf numbers) source bytes) ≡ total
   pub room : 4 * packets total ≤ length w
   pub top : 4 * (packets size + lag) ≤ length w
-  pub small : length w ≤ 16384
+  pub small : length w ≤ mostWords
   pub free : head ≤ 4294967040
   pub flows : Flows w (merged shrunk grow 0 (editsOf numbers) source bytes) head flow words
   pub fits : flow .high < 2 ^ 40
@@ -101,7 +102,7 @@ top-number to size lag room h l =
     let e : (to + 12) / 13 ≤ suc ((size - 1) / 13) = omega arith in
     omega arith
 
-pub next-number : (next size lag room : ℕ) → next ≤ size → 4 * (suc ((size - 1) / 13) + lag) ≤ room → room ≤ 16384 → (next / 13 + lag < 65536) × (0 < next % 13 → 4 * (next / 13 + lag) + 4 ≤ room)
+pub next-number : (next size lag room : ℕ) → next ≤ size → 4 * (suc ((size - 1) / 13) + lag) ≤ room → room ≤ mostWords → (next / 13 + lag < 65536) × (0 < next % 13 → 4 * (next / 13 + lag) + 4 ≤ room)
 next-number next size lag room h l s =
     let e : next / 13 ≤ suc ((size - 1) / 13) = omega arith in
     let f : 0 < next % 13 → next / 13 < suc ((size - 1) / 13) = λ i. omega arith in
@@ -193,10 +194,10 @@ module _ {w : List ℕ} {head size total lag : ℕ} {numbers bytes : List ℕ} {
     same = rw (rest-step numbers index there) at (p .is)
 
     -- what its step asks
-    pub edit-asks : (end ≤ editIn numbers index .from) × ((editIn numbers index .from ≤ editIn numbers index .to) × (stepOf shrunk grow end (editIn numbers index) .kept ≤ 53248))
+    pub edit-asks : (end ≤ editIn numbers index .from) × ((editIn numbers index .from ≤ editIn numbers index .to) × (stepOf shrunk grow end (editIn numbers index) .kept ≤ mostBytes))
     edit-asks = (now .after, (now .forward, few (stepOf shrunk grow end (editIn numbers index) .kept) size lag (length w) (omega (arith, now .read)) (p .top) (p .small)))
       where
-        few : (k size lag room : ℕ) → k ≤ size → 4 * (suc ((size - 1) / 13) + lag) ≤ room → room ≤ 16384 → k ≤ 53248
+        few : (k size lag room : ℕ) → k ≤ size → 4 * (suc ((size - 1) / 13) + lag) ≤ room → room ≤ mostWords → k ≤ mostBytes
         few k size lag room h l s = omega arith
 
     module _ (s : code.Step) (e : stepMeaning s ≡ stepOf shrunk grow end (editIn numbers index)) where
@@ -390,7 +391,7 @@ module _ {ws : List ℕ} {head size total : ℕ} {numbers bytes : List ℕ} {shr
   pub begin-asks : (at held lag : ℕ) → at ≡ b → held ≡ packets size → lag ≡ packets total - packets size → Asks at held lag (length ws)
   begin-asks at held lag e h l = go size (packets total) (length ws) (rw e begin-inside) (m .held) (m .needed) (m .small) h l
     where
-      go : (size needed room : ℕ) → at ≤ size → 4 * suc ((size - 1) / 13) ≤ room → 4 * needed ≤ room → room ≤ 16384 → held ≡ suc ((size - 1) / 13) → lag ≡ needed - suc ((size - 1) / 13) → Asks at held lag room
+      go : (size needed room : ℕ) → at ≤ size → 4 * suc ((size - 1) / 13) ≤ room → 4 * needed ≤ room → room ≤ mostWords → held ≡ suc ((size - 1) / 13) → lag ≡ needed - suc ((size - 1) / 13) → Asks at held lag room
       go size needed room low a b c h l =
           let t : 4 * (held + lag) ≤ room = omega arith in
           let u : at / 13 ≤ held = omega arith in

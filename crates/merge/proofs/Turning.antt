@@ -9,6 +9,7 @@ use native.Mathlib.Omega.{arith}
 use lib.Dec.{ltb}
 use lib.ListN.{length, take, drop, length-append, length-take, length-drop}
 use lib.Seq.{length-take-le, take-take, drop-drop, take-append-le, drop-append-le, take-at, drop-at}
+use Rattle.ump.specs.Limits.{mostBytes}
 use Rattle.ump.specs.Word.{Below}
 use Rattle.ump.specs.Edits.{Edit, editIn, editsFrom, editsOf, perEdit}
 use Rattle.ump.proofs.First.{Side, under, over, side}
@@ -165,7 +166,7 @@ module _ (shrunk grow : Bool) (size lag total given end at m start : ℕ) where
   pub record Turn (edit : Edit) (edits : List Edit) : Type 0 where
     pub after : end ≤ edit .from
     pub forward : edit .from ≤ edit .to
-    pub short : edit .length ≤ 53248
+    pub short : edit .length ≤ mostBytes
     pub read : at + stepOf shrunk grow end edit .kept + stepOf shrunk grow end edit .out ≤ size
     pub written : m + stepOf shrunk grow end edit .kept + stepOf shrunk grow end edit .put ≤ total
     pub supplied : start + edit .length ≤ given

@@ -2,6 +2,7 @@
 ghost use mathlib.Core.Path.{_≡_};
 ghost use Prim.Native.Nat.{_+_, _-_, _*_, _/_, _%_, _^_, _≤_, _<_};
 ghost use lib.ListN.{length};
+ghost use Rattle.ump.specs.Limits.{mostBytes};
 ghost use Rattle.ump.specs.Edits.{editIn, perEdit};
 ghost use Rattle.flow.specs.Digits.{val};
 ghost use Rattle.merge.specs.Thirteens.{number, body, frontOf};
@@ -97,7 +98,7 @@ fn is_due(grows: bool, shrunk: bool, grow: bool) -> bool
 fn step_of(numbers: &[usize], index: usize, end: usize, shrunk: bool, grow: bool) -> Step
     requires { ⌜ (index < length (now numbers) / perEdit) × ((end ≤ editIn (now numbers) index .from)
         × ((editIn (now numbers) index .from ≤ editIn (now numbers) index .to)
-        × (stepOf shrunk grow end (editIn (now numbers) index) .kept ≤ 53248))) ⌝ }
+        × (stepOf shrunk grow end (editIn (now numbers) index) .kept ≤ mostBytes))) ⌝ }
     ensures { λ r. ⌜ stepMeaning r ≡ stepOf shrunk grow end (editIn (now (numbers .entry)) index) ⌝ }
 {
     let at = 3 * index;

@@ -6,6 +6,7 @@ use Prim.Native.Nat.{ℕ, zero, suc, _+_, _-_, _*_, _/_, _≤_, _<_, min}
 use native.Mathlib.Nat.{add-zero, zero-add}
 use native.Mathlib.Omega.{arith}
 use lib.ListN.{length}
+use Rattle.ump.specs.Limits.{mostWords, mostBytes}
 use Rattle.ump.specs.Edits.{Edit, Apart, replaced, editIn, editsFrom, editsOf, patchesOf, lengths, perEdit}
 use Rattle.ump.proofs.First.{Side, under, over, side}
 use Rattle.merge.specs.Pass.{width, stepOf, merged, beginOf, Ahead, Turns, packets}
@@ -77,7 +78,7 @@ module _ {shrunk grow : Bool} (pass : Pass shrunk grow) (n size lag total given 
     → m′ ≡ m + gap + new grow edit → Holds at′ m′ edits) where
   turns : (end at m start : ℕ) (edits : List Edit) → Ordered n end edits → Holds at m edits
       → at + (n - end) + sum (old shrunk) edits ≡ size + widths edits → m + (n - end) + sum (new grow) edits ≡ total + widths edits
-      → start + lengths edits ≤ given → lengths edits ≤ 53248 → Turns shrunk grow size lag total given end at m start edits
+      → start + lengths edits ≤ given → lengths edits ≤ mostBytes → Turns shrunk grow size lag total given end at m start edits
   unfolding Turns widths
   turns end at m start [] o h r w g l = (omega arith, (omega arith, behind at m [] h))
   turns end at m start (edit ∷ edits) o h r w g l =
@@ -97,7 +98,7 @@ module _ {shrunk grow : Bool} (pass : Pass shrunk grow) (n size lag total given 
   -- it can begin at the first edit
   from-begin : (numbers : List ℕ) → Ordered n 0 (editsOf numbers) → ((b : ℕ) → Holds b b (editsOf numbers))
       → n + sum (old shrunk) (editsOf numbers) ≡ size + widths (editsOf numbers) → n + sum (new grow) (editsOf numbers) ≡ total + widths (editsOf numbers)
-      → lengths (editsOf numbers) ≤ given → lengths (editsOf numbers) ≤ 53248
+      → lengths (editsOf numbers) ≤ given → lengths (editsOf numbers) ≤ mostBytes
       → let b = beginOf numbers size in Turns shrunk grow size lag total given b b b 0 (editsOf numbers)
   from-begin numbers o h r w g l =
       rw (begin-is numbers size)
@@ -109,7 +110,7 @@ module _ {shrunk grow : Bool} (pass : Pass shrunk grow) (n size lag total given 
 -- ---- a list of edits that can be done
 
 -- a message has at most 4,096 packets
-fits-packets : (n : ℕ) → 4 * packets n ≤ 16384 → n ≤ 53248
+fits-packets : (n : ℕ) → 4 * packets n ≤ mostWords → n ≤ mostBytes
 fits-packets n h = omega arith
 
 -- what a payload gains stands in the packets that it gains and in the last one that it had
@@ -172,10 +173,10 @@ module _ {words : List ℕ} {head size total : ℕ} {numbers bytes source : List
   out-le : widths edits ≤ size
   out-le = omega (arith, l .sized, widths-inside (length source) 0 edits order)
 
-  size-le : size ≤ 53248
+  size-le : size ≤ mostBytes
   size-le = fits-packets size (omega (arith, l .held, l .small))
 
-  total-le : total ≤ 53248
+  total-le : total ≤ mostBytes
   total-le = fits-packets total (omega (arith, l .needed, l .small))
 
   pub summed : Summed numbers

@@ -4,6 +4,7 @@ use mathlib.Core.List.{List}
 use Prim.Native.Nat.{ℕ, _+_, _*_, _/_, _^_, _≤_, _<_}
 use native.Mathlib.Omega.{arith}
 use lib.ListN.{length, getD}
+use Rattle.ump.specs.Limits.{mostWords}
 use Rattle.ump.specs.Word.{nibble, Below}
 use Rattle.ump.specs.Packet.{sysex8, groupAt, idAt, sizeOf, countAt, sizeAt, joined, payload}
 use Rattle.ump.specs.Packing.{packetsFor, wordsFor}
@@ -85,7 +86,7 @@ pub record Bounds (w : List ℕ) (len n base head end packets : ℕ) : Type 0 wh
   pub whole : len ≡ 4 * packets
   pub reach : end ≤ len
   pub room : len ≤ length w
-  pub small : length w ≤ 16384
+  pub small : length w ≤ mostWords
 
 module _ {w : List ℕ} {len n : ℕ} (ok : Accepted w len n) where
   pub bounds : (base head end packets : ℕ) → base ≡ baseOf (getD w 0 0) → head ≡ innerHead sysex8 base → end ≡ wordsFor sysex8 n → packets ≡ len / 4

@@ -221,7 +221,7 @@ fn write_packets(inner: &[u8], size: usize, group: u8, packets: usize, words: &m
     }
     let count = size - 6 * packet;
     let six = take_six(inner, at, count);
-    let head = head_word(group, layout::status_for(packets, packet), count);
+    let head = head_word(group, layout::status_for(packets, last), count);
     put(words, packet, head + six.high, six.low);
 }
 

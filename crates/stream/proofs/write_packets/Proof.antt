@@ -52,6 +52,9 @@ module _ (c : tie.After-loop Inv-loop μ-loop) where
   all : c .before .loop .packet + 1 ≡ start (c .before) .args .packets
   all = let s = start (c .before) in omega (arith, c .loop-test .left, s .pre .1 .in-packets, packets-pos sysex7 (s .args .size))
 
+  last-is : start (c .before) .args .packets - 1 ≡ c .before .loop .packet
+  last-is = omega (arith, all)
+
   fewer : 6 * c .before .loop .packet ≤ start (c .before) .args .size
   fewer = let s = start (c .before) in omega (arith, all, s .pre .1 .in-packets, packets-are sysex7 (s .args .size))
 
@@ -66,7 +69,7 @@ written c =
     let e = t .before in
     let l = e .before in
     rw (c .put2 .ensures)
-    (wrote-more (some l) (l .loop .inv .2) (omega (arith, all e)) (start l .pre .2) (rest e) (rw (h .before .status-for .ensures) at (h .head-word3 .ensures .0)) (t .take-six2 .ensures))
+    (wrote-more (some l) (l .loop .inv .2) (omega (arith, all e)) (start l .pre .2) (rest e) (rw (h .before .status-for .ensures, last-is e) at (h .head-word3 .ensures .0)) (t .take-six2 .ensures))
 
 returns : tie.Need-returns Inv-loop μ-loop
 returns c =
@@ -94,7 +97,7 @@ write-packets-spec =
     (λ c. fewer c)
     (λ c κs. rest c)
     (λ c κs. search needs)
-    (λ c κs. let l = c .before .before in (search needs, omega (arith, c .status-for .ensures, status-small (start (l .before) .args .packets) (l .before .loop .packet)), omega (arith, rest l)))
+    (λ c κs. let l = c .before .before in (search needs, omega (arith, c .status-for .ensures, status-small (start (l .before) .args .packets) (start (l .before) .args .packets - 1)), omega (arith, rest l)))
     (λ c. search needs)
     (λ c κs. let l = c .before .before .before .before .before in omega (arith, l .before .loop .inv .2 .kept, all l, start (l .before) .pre .2))
     (λ c. written (c .before .before) .kept)

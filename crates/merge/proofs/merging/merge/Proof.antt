@@ -5,6 +5,7 @@ use Prim.Native.Nat.{ℕ, suc, _+_, _-_, _*_, _/_, _≤_, _<_}
 use native.Mathlib.Omega.{arith}
 use lib.ListN.{length}
 use borrow.Author.Needs.{needs}
+use Rattle.ump.specs.Limits.{mostWords, mostBytes}
 use Rattle.ump.specs.Edits.{editIn}
 use Rattle.ump.specs.Packet.{sysex8}
 use Rattle.ump.specs.Packing.{wordsFor}
@@ -100,10 +101,10 @@ of-edit : (c : tie.After-step-of Inv-loop μ-loop) → let x = start-of (c .befo
     Edited (x .size) (x .total) (length (x .bytes .now)) (l .at) (taken (l .flow)) (l .start) (c .step-of .result) (editIn (x .numbers .now) (l .index) .length)
 of-edit c = edit-inside (here (c .before .before)) (c .before .loop-test .taken) (c .step-of .result) (c .step-of .ensures)
 
-size-fits : (size lag room : ℕ) → 4 * (suc ((size - 1) / 13) + lag) ≤ room → room ≤ 16384 → size ≤ 53248
+size-fits : (size lag room : ℕ) → 4 * (suc ((size - 1) / 13) + lag) ≤ room → room ≤ mostWords → size ≤ mostBytes
 size-fits size lag room h l = omega arith
 
-small : (c : tie.At-loop Inv-loop μ-loop) → start-of c .args .size ≤ 53248
+small : (c : tie.At-loop Inv-loop μ-loop) → start-of c .args .size ≤ mostBytes
 small c = size-fits _ _ _ (here c .top) (here c .small)
 
 next-of-requires : tie.Need-next-of-requires Inv-loop μ-loop

@@ -3,6 +3,7 @@ use mathlib.Core.Path.{_≡_, refl, subst}
 use Prim.Native.Nat.{ℕ, _+_, _-_, _*_, _/_, _<_, _≤_}
 use native.Mathlib.Omega.{arith}
 use borrow.Author.Needs.{needs}
+use Rattle.ump.specs.Limits.{mostWords}
 use Rattle.merge.specs.Pieces.{none, taken, Runs, Kept}
 use Rattle.merge.specs.declared.pending.Pending.{Pending}
 use Rattle.merge.proofs.Running.{flows-none, goes-as, ran-there}
@@ -16,7 +17,7 @@ nothing-waits c =
     flows-none (st .args .pending) (st .pre .1 .1 .flows) (c .if1 .left)
 
 -- the packet behind all is one of the words
-next-small : (m n q c : ℕ) {room : ℕ} → m ≡ 13 * q + c → 4 * ((m + 13 * n) / 13) ≤ room → room ≤ 16384 → q + n < 65536
+next-small : (m n q c : ℕ) {room : ℕ} → m ≡ 13 * q + c → 4 * ((m + 13 * n) / 13) ≤ room → room ≤ mostWords → q + n < 65536
 next-small m n q c e h l = omega arith
 
 run-shifted-requires : tie.Need-run-shifted-requires

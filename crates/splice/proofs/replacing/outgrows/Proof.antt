@@ -7,6 +7,7 @@ use Prim.Native.Nat.{ℕ, _+_, _-_, _/_, _≤_, _<_}
 use native.Mathlib.Omega.{arith}
 use borrow.Author.Needs.{needs}
 use lib.ListN.{length}
+use Rattle.ump.specs.Limits.{mostBytes}
 use Rattle.ump.specs.Edits.{editIn, editsOf, lengths, perEdit}
 use Rattle.merge.specs.Pass.{width}
 use Rattle.splice.specs.Merging.{Within, widths}
@@ -15,13 +16,13 @@ use Rattle.splice.proofs.replacing.outgrows.Statement.{statement}
 use Rattle.splice.proofs.replacing.outgrows.Tie as tie
 
 record Passed (numbers : List ℕ) (room added removed i : ℕ) : Type 0 where
-  put : added + lengths (rest numbers i) ≤ 53248
-  out : removed + widths (rest numbers i) ≤ 53248
+  put : added + lengths (rest numbers i) ≤ mostBytes
+  out : removed + widths (rest numbers i) ≤ mostBytes
   within : Within room added removed (rest numbers i) → Within room 0 0 (editsOf numbers)
 
 record Passes (numbers : List ℕ) (room added removed i : ℕ) : Type 0 where
-  put : added + editIn numbers i .length ≤ 53248
-  out : removed + width (editIn numbers i) ≤ 53248
+  put : added + editIn numbers i .length ≤ mostBytes
+  out : removed + width (editIn numbers i) ≤ mostBytes
   next : added + editIn numbers i .length ≤ removed + width (editIn numbers i) + room
       → Passed numbers room (added + editIn numbers i .length) (removed + width (editIn numbers i)) (i + 1)
 

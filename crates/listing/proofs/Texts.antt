@@ -48,6 +48,12 @@ module _ {text text′ piece : List ℕ} {at to : ℕ} (w : Wrote text at text�
   pub wrote-front : at ≡ 0 → text′ ≡ over piece text
   wrote-front e = w .text ∙ rw (e, zero-add)
 
+  pub front-is : at ≡ 0 → take to text′ ≡ piece
+  front-is e = rw (wrote-front e) (take-at piece (drop (length piece) text) to (omega (arith, w .far, e)))
+
+  pub front-fits : at ≡ 0 → to ≤ length text′
+  front-fits e = rw (wrote-front e, length-append) (omega (arith, w .far, e))
+
 -- ---- stores
 
 pub wrote-none : (text : List ℕ) (at : ℕ) → Wrote text at text at []

@@ -1,6 +1,5 @@
--- Any two outcomes that the promise allows are equal: the answer, the words and the text after. Assumes nothing.
+-- Any two outcomes that the promise allows are equal: the answer and the text after. Assumes nothing.
 use mathlib.Core.Path.{_≡_, refl, ap}
-use mathlib.Core.List.{List}
 use Prim.Native.Nat.{ℕ}
 use Rattle.refusal.specs.Answer.{Answer, gives, refused}
 use Rattle.refusal.specs.Tight.{FixesOutcome}
@@ -25,7 +24,7 @@ listed-back (listed.Refused fault) = ap listed.Refused (fault-back fault)
 pub listed-once : (x y : Listed) → listedMeaning x ≡ listedMeaning y → x ≡ y
 listed-once x y e = once listedMeaning listedBack listed-back x y e
 
-list-unique : FixesOutcome {Lent = List ℕ × List ℕ} 3 list-kinds.ps list-kinds.r list.Post (λ κs s. (s .1 .0 .now, s .1 .1 .0 .now))
+list-unique : FixesOutcome 2 list-kinds.ps list-kinds.r list.Post (λ κs s. s .1 .0 .now)
 list-unique κs a x y s t p q = both-fixed listedMeaning listed-once p q
 
 refuse-unique : FixesOutcome 1 refuse-kinds.ps refuse-kinds.r refuse.Post (λ κs s. s .1 .0 .now)

@@ -84,11 +84,20 @@ checkedIn (refused number place) = refused number place
 unfoldable pub refusalLine : ℕ → ℕ → List ℕ
 refusalLine number place = twoNumbers (ascii "refused ") number (ascii "at ") place
 
+-- the line of an answer that refuses; no other has one
+abbrev pub faultLine : {A : Type 0} → Answer A → List ℕ
+faultLine (gives value) = []
+faultLine (refused number place) = refusalLine number place
+
+-- a line for each packet
+abbrev pub packetLines : List ℕ → List ℕ
+packetLines words = joined (packetLine words) (length words / 4)
+
 -- the heading, a line for each packet, the totals
 unfoldable pub messageText : List ℕ → ℕ → List ℕ
 messageText words size =
     heading
-    ++ (joined (packetLine words) (length words / 4)
+    ++ (packetLines words
     ++ twoNumbers (ascii "payload ") size (ascii "words ") (length words))
 
 unfoldable pub textOf : List ℕ → Answer Summary → List ℕ

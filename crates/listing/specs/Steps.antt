@@ -1,16 +1,23 @@
 -- What the steps of writing a listing answer.
 -- Assumes nothing.
 use mathlib.Core.Path.{_≡_}
-use mathlib.Core.Bool.{cond, _||_}
 use mathlib.Core.List.{List, _++_}
 use Prim.Native.Nat.{ℕ, _+_}
 use lib.Dec.{ltb}
 use lib.ListN.{length, take, drop}
+<<<<<<< HEAD
 use Rattle.refusal.specs.Answer.{Answer, gives, refused}
 use Rattle.ump.specs.Limits.{mostWords}
 use Rattle.ump.specs.Check.{Summary}
+=======
+use Rattle.refusal.specs.Answer.{Answer, gives, refused, pass, guard, writes}
+use Rattle.ump.specs.Packet.{sysex8}
+use Rattle.ump.specs.Check.{Summary, check}
+>>>>>>> eb51775 (listing: only bytes and text are lent, Room exactly where the text does not fit; a refused packet has its line; contracts under 140 columns)
 use Rattle.ump.specs.Single.{Kind, complete, start, continue, end, unexpectedEnd}
-use Rattle.listing.specs.Listing.{wordsIn, checkedIn, refusalLine, listing}
+use Rattle.packet.specs.Meaning.{kindMeaning}
+use Rattle.packet.specs.declared.sysex8.Packet.{Packet}
+use Rattle.listing.specs.Listing.{line, wordsIn, checkedIn}
 
 -- a piece was written into a text, which is otherwise as it was, and this is how far it goes
 pub record Wrote (before : List ℕ) (at : ℕ) (after : List ℕ) (to : ℕ) (piece : List ℕ) : Type 0 where
@@ -25,6 +32,14 @@ statusOf continue = 2
 statusOf end = 3
 statusOf (unexpectedEnd valid) = 3
 
+-- the line of a packet that was read at a word index
+abbrev pub lineOf : ℕ → Packet → List ℕ
+lineOf index packet = line index (packet .group) (statusOf (kindMeaning (packet .kind))) (packet .size) (packet .id)
+
+-- these words are a message that passes the check
+abbrev pub Passed : List ℕ → Type 0
+Passed words = check sysex8 words (length words) ≡ pass
+
 -- numbers at the front of what is lent; the rest stays
 abbrev pub over : List ℕ → List ℕ → List ℕ
 over new old = new ++ drop (length new) old
@@ -38,6 +53,7 @@ wordsAfter (refused number place) old = old
 unfoldable pub load : List ℕ → List ℕ → Answer Summary × List ℕ
 load bytes words = (checkedIn (wordsIn bytes), wordsAfter (wordsIn bytes) words)
 
+<<<<<<< HEAD
 -- Room where fewer than 16,384 words or 98,560 bytes of text are lent; else the size of the listing, the words and the text after
 unfoldable pub list : List ℕ → List ℕ → List ℕ → Answer ℕ × (List ℕ × List ℕ)
 list bytes words text =
@@ -48,3 +64,8 @@ list bytes words text =
 unfoldable pub refuse : ℕ → ℕ → List ℕ → Answer ℕ × List ℕ
 refuse number place text =
     cond (ltb (length text) 64) (refused 14 0, text) (gives (length (refusalLine number place)), over (refusalLine number place) text)
+=======
+-- a piece of text handed over: Room where it does not fit; else its size, and the text lent after
+unfoldable pub handed : List ℕ → List ℕ → Answer ℕ × List ℕ
+handed piece text = writes (guard (ltb (length text) (length piece)) 14 0) text (length piece) (over piece text)
+>>>>>>> eb51775 (listing: only bytes and text are lent, Room exactly where the text does not fit; a refused packet has its line; contracts under 140 columns)

@@ -1,7 +1,10 @@
 // The listing of a SysEx8 message: its bytes in, lines of text out.
 ghost use mathlib.Core.Path.{_≡_};
+ghost use Prim.Native.Nat.{_≤_};
+ghost use lib.ListN.{length};
 ghost use Rattle.refusal.specs.Number.{numberOf};
-ghost use Rattle.listing.specs.Steps.{list as Steps·list, refuse as Steps·refuse};
+ghost use Rattle.listing.specs.Listing.{listing, refusalLine};
+ghost use Rattle.listing.specs.Steps.{Wrote, handed};
 ghost use Rattle.listing.specs.Meaning.{listedMeaning};
 use message::sysex8::Checked;
 use refusal::Fault;
@@ -11,14 +14,14 @@ mod line;
 mod load;
 mod text;
 
-// The words to lend: as many as a message may have.
-pub const WORDS: usize = 16384;
+// As many words as a message may have.
+const WORDS: usize = 16384;
 
-// The bytes of text to lend: 24 for each of 4,096 packets, and 256 for the other lines.
+// Bytes of text that are enough for every listing: 24 for each of 4,096 packets, and 256 for the other lines.
 pub const TEXT: usize = 98560;
 
-// The bytes of text to lend for the line of a refusal.
-pub const LINE: usize = 64;
+// Bytes of text that are enough for the line of every refusal.
+const LINE: usize = 64;
 
 // The answer of a listing: how many bytes of text it has.
 pub enum Listed {
@@ -26,40 +29,48 @@ pub enum Listed {
     Refused(Fault),
 }
 
-// Lists the message whose words these bytes are, four each, highest first: the text is the refusal's line, or the heading, a line
-// for each packet and the totals. Refuses Room where fewer than `WORDS` words or `TEXT` bytes are lent.
-pub fn list(bytes: &[u8], words: &mut [u32], text: &mut [u8]) -> Listed
-    ensures { λ r. ⌜ (listedMeaning r, (now (words .exit), now (text .exit))) ≡ Steps·list (now (bytes .entry)) (now (words .entry)) (now (text .entry)) ⌝ }
+// Writes the text of the message whose words these bytes are: the refusal's line, or the heading, a line for each packet and the totals.
+fn put_listing(bytes: &[u8], words: &mut [u32], text: &mut [u8]) -> usize
+    requires { ⌜ (16384 ≤ length (now words)) × (98560 ≤ length (now text)) ⌝ }
+    ensures { λ r. ⌜ Wrote (now (text .entry)) 0 (now (text .exit)) r (listing (now (bytes .entry))) ⌝ }
 {
-    if words.len() < WORDS {
-        return Listed::Refused(Fault {
-            refusal: Refusal::Room,
-            place: 0,
-        });
-    }
-    if text.len() < TEXT {
-        return Listed::Refused(Fault {
-            refusal: Refusal::Room,
-            place: 0,
-        });
-    }
     let checked = load::load(bytes, words);
     let Checked::Message(message) = checked else {
-        return Listed::Text(line::put_refusal(text, checked));
+        return line::put_refusal(text, checked);
     };
     let length = message.words;
-    Listed::Text(line::put_message(text, &words[..length], message.size))
+    line::put_message(text, &words[..length], message.size)
 }
 
-// The line of a refusal. Refuses Room where fewer than `LINE` bytes are lent.
-pub fn refuse(fault: Fault, text: &mut [u8]) -> Listed
-    ensures { λ r. ⌜ (listedMeaning r, now (text .exit)) ≡ Steps·refuse (numberOf (fault .refusal)) (fault .place) (now (text .entry)) ⌝ }
+// Hands a piece of text over. Refuses Room where it does not fit.
+fn hand(piece: &[u8], text: &mut [u8]) -> Listed
+    ensures { λ r. ⌜ (listedMeaning r, now (text .exit)) ≡ handed (now (piece .entry)) (now (text .entry)) ⌝ }
 {
-    if text.len() < LINE {
+    if text.len() < piece.len() {
         return Listed::Refused(Fault {
             refusal: Refusal::Room,
             place: 0,
         });
     }
-    Listed::Text(line::put_fault(text, fault))
+    Listed::Text(text::put_bytes(text, 0, piece))
+}
+
+// Lists the message whose words these bytes are, four each, highest first. Refuses Room where the text does not fit.
+pub fn list(bytes: &[u8], text: &mut [u8]) -> Listed
+    ensures { λ r. ⌜ (listedMeaning r, now (text .exit)) ≡ handed (listing (now (bytes .entry))) (now (text .entry)) ⌝ }
+{
+    let mut words = [0u32; WORDS];
+    let mut whole = [0u8; TEXT];
+    let size = put_listing(bytes, &mut words, &mut whole);
+    hand(&whole[..size], text)
+}
+
+// The line of a refusal. Refuses Room where it does not fit.
+pub fn refuse(fault: Fault, text: &mut [u8]) -> Listed
+    ensures { λ r. ⌜ (listedMeaning r, now (text .exit))
+        ≡ handed (refusalLine (numberOf (fault .refusal)) (fault .place)) (now (text .entry)) ⌝ }
+{
+    let mut line = [0u8; LINE];
+    let size = line::put_fault(&mut line, 0, fault);
+    hand(&line[..size], text)
 }

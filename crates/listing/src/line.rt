@@ -1,15 +1,11 @@
 // The lines of a listing, written into a text.
-ghost use mathlib.Core.Path.{_≡_};
-ghost use Prim.Native.Nat.{ℕ, _+_, _*_, _/_, _≤_, _<_};
+ghost use Prim.Native.Nat.{_+_, _*_, _/_, _≤_, _<_};
 ghost use lib.ListN.{length};
-ghost use Rattle.refusal.specs.Answer.{refused, pass};
 ghost use Rattle.refusal.specs.Number.{numberOf};
-ghost use Rattle.ump.specs.Packet.{sysex8, joined};
-ghost use Rattle.ump.specs.Check.{check};
 ghost use Rattle.message.specs.Meaning.{checkMeaning8};
-ghost use Rattle.packet.specs.Meaning.{kindMeaning};
-ghost use Rattle.listing.specs.Listing.{statusName, line as Listing·line, packetLine, twoNumbers, refusalLine, messageText};
-ghost use Rattle.listing.specs.Steps.{Wrote, statusOf};
+ghost use Rattle.packet.specs.Meaning.{kindMeaning, packetMeaning8};
+ghost use Rattle.listing.specs.Listing.{statusName, packetLine, packetLines, twoNumbers, refusalLine, faultLine, messageText};
+ghost use Rattle.listing.specs.Steps.{Wrote, Passed, statusOf, lineOf};
 use crate::text::put_bytes;
 use crate::text::put_id;
 use crate::text::put_number;
@@ -35,8 +31,8 @@ fn put_status(text: &mut [u8], at: usize, kind: Kind) -> usize
 
 // Writes the line of a packet: word index, group, status, payload bytes, stream id.
 fn put_line(text: &mut [u8], at: usize, index: usize, packet: Packet) -> usize
-    requires { ⌜ at + length (Listing·line index (packet .group) (statusOf (kindMeaning (packet .kind))) (packet .size) (packet .id)) ≤ length (now text) ⌝ }
-    ensures { λ r. ⌜ Wrote (now (text .entry)) at (now (text .exit)) r (Listing·line index (packet .group) (statusOf (kindMeaning (packet .kind))) (packet .size) (packet .id)) ⌝ }
+    requires { ⌜ at + length (lineOf index packet) ≤ length (now text) ⌝ }
+    ensures { λ r. ⌜ Wrote (now (text .entry)) at (now (text .exit)) r (lineOf index packet) ⌝ }
 {
     let kind = packet.kind;
     let group_at = put_number(text, at, index, b' ');
@@ -44,34 +40,6 @@ fn put_line(text: &mut [u8], at: usize, index: usize, packet: Packet) -> usize
     let count_at = put_status(text, status_at, kind);
     let id_at = put_number(text, count_at, packet.size, b' ');
     put_id(text, id_at, packet.id)
-}
-
-// Writes the line of packet `number` of a message that passed the check, and so has no packet that is refused alone.
-fn put_packet(text: &mut [u8], at: usize, words: &[u32], number: usize) -> usize
-    requires { ⌜ (check sysex8 (now words) (length (now words)) ≡ pass) × (number < length (now words) / 4) × (at + 24 ≤ length (now text)) ⌝ }
-    ensures { λ r. ⌜ Wrote (now (text .entry)) at (now (text .exit)) r (packetLine (now (words .entry)) number) ⌝ }
-{
-    let index = 4 * number;
-    let read = packet::sysex8::read_packet(&words[index..]);
-    let PacketRead::Packet(packet) = read else {
-        return at;
-    };
-    put_line(text, at, index, packet)
-}
-
-// Writes a line for each packet of a message that passed the check.
-fn put_packets(text: &mut [u8], at: usize, words: &[u32]) -> usize
-    requires { ⌜ (check sysex8 (now words) (length (now words)) ≡ pass) × (at + 24 * (length (now words) / 4) ≤ length (now text)) ⌝ }
-    ensures { λ r. ⌜ Wrote (now (text .entry)) at (now (text .exit)) r (joined (packetLine (now (words .entry))) (length (now (words .entry)) / 4)) ⌝ }
-{
-    let packets = words.len() / 4;
-    let mut end = at;
-    let mut packet = 0;
-    while packet < packets {
-        end = put_packet(text, end, words, packet);
-        packet += 1;
-    }
-    end
 }
 
 // Writes a line of two words, each with its number.
@@ -84,7 +52,8 @@ fn put_numbers(
     right: usize,
 ) -> usize
     requires { ⌜ at + length (twoNumbers (now first) left (now second) right) ≤ length (now text) ⌝ }
-    ensures { λ r. ⌜ Wrote (now (text .entry)) at (now (text .exit)) r (twoNumbers (now (first .entry)) left (now (second .entry)) right) ⌝ }
+    ensures { λ r. ⌜ Wrote (now (text .entry)) at (now (text .exit)) r
+        (twoNumbers (now (first .entry)) left (now (second .entry)) right) ⌝ }
 {
     let left_at = put_bytes(text, at, first);
     let second_at = put_number(text, left_at, left, b' ');
@@ -92,9 +61,59 @@ fn put_numbers(
     put_number(text, right_at, right, b'\n')
 }
 
+// Writes the line of a refusal.
+pub(crate) fn put_fault(text: &mut [u8], at: usize, fault: Fault) -> usize
+    requires { ⌜ at + 64 ≤ length (now text) ⌝ }
+    ensures { λ r. ⌜ Wrote (now (text .entry)) at (now (text .exit)) r (refusalLine (numberOf (fault .refusal)) (fault .place)) ⌝ }
+{
+    let refusal = fault.refusal;
+    let number = refusal::number(refusal) as usize;
+    put_numbers(text, at, b"refused ", number, b"at ", fault.place)
+}
+
+// Writes the line of a packet that is refused.
+fn put_refused(text: &mut [u8], at: usize, read: PacketRead) -> usize
+    requires { ⌜ at + 64 ≤ length (now text) ⌝ }
+    ensures { λ r. ⌜ Wrote (now (text .entry)) at (now (text .exit)) r (faultLine (packetMeaning8 read)) ⌝ }
+{
+    let PacketRead::Refused(fault) = read else {
+        return at;
+    };
+    put_fault(text, at, fault)
+}
+
+// Writes the line of packet `number` of a message that passed the check, and so has no packet that is refused alone; such a packet would
+// have the line of its refusal.
+fn put_packet(text: &mut [u8], at: usize, words: &[u32], number: usize) -> usize
+    requires { ⌜ (Passed (now words)) × (number < length (now words) / 4) × (at + 24 ≤ length (now text)) ⌝ }
+    ensures { λ r. ⌜ Wrote (now (text .entry)) at (now (text .exit)) r (packetLine (now (words .entry)) number) ⌝ }
+{
+    let index = 4 * number;
+    let read = packet::sysex8::read_packet(&words[index..]);
+    let PacketRead::Packet(packet) = read else {
+        return put_refused(text, at, read);
+    };
+    put_line(text, at, index, packet)
+}
+
+// Writes a line for each packet of a message that passed the check.
+fn put_packets(text: &mut [u8], at: usize, words: &[u32]) -> usize
+    requires { ⌜ (Passed (now words)) × (at + 24 * (length (now words) / 4) ≤ length (now text)) ⌝ }
+    ensures { λ r. ⌜ Wrote (now (text .entry)) at (now (text .exit)) r (packetLines (now (words .entry))) ⌝ }
+{
+    let packets = words.len() / 4;
+    let mut end = at;
+    let mut packet = 0;
+    while packet < packets {
+        end = put_packet(text, end, words, packet);
+        packet += 1;
+    }
+    end
+}
+
 // Writes the heading, a line for each packet, and the totals, of a message that passed the check.
 pub(crate) fn put_message(text: &mut [u8], words: &[u32], size: usize) -> usize
-    requires { ⌜ (check sysex8 (now words) (length (now words)) ≡ pass) × (98560 ≤ length (now text)) ⌝ }
+    requires { ⌜ (Passed (now words)) × (98560 ≤ length (now text)) ⌝ }
     ensures { λ r. ⌜ Wrote (now (text .entry)) 0 (now (text .exit)) r (messageText (now (words .entry)) size) ⌝ }
 {
     let at = put_bytes(text, 0, b"at group status count id\n");
@@ -102,23 +121,13 @@ pub(crate) fn put_message(text: &mut [u8], words: &[u32], size: usize) -> usize
     put_numbers(text, end, b"payload ", size, b"words ", words.len())
 }
 
-// Writes the line of a refusal.
-pub(crate) fn put_fault(text: &mut [u8], fault: Fault) -> usize
-    requires { ⌜ 64 ≤ length (now text) ⌝ }
-    ensures { λ r. ⌜ Wrote (now (text .entry)) 0 (now (text .exit)) r (refusalLine (numberOf (fault .refusal)) (fault .place)) ⌝ }
-{
-    let refusal = fault.refusal;
-    let number = refusal::number(refusal) as usize;
-    put_numbers(text, 0, b"refused ", number, b"at ", fault.place)
-}
-
 // Writes the line of a check that refuses.
 pub(crate) fn put_refusal(text: &mut [u8], checked: Checked) -> usize
-    requires { ⌜ 98560 ≤ length (now text) ⌝ }
-    ensures { λ r. ⌜ ((number place : ℕ) → checkMeaning8 checked ≡ refused number place → Wrote (now (text .entry)) 0 (now (text .exit)) r (refusalLine number place)) ⌝ }
+    requires { ⌜ 64 ≤ length (now text) ⌝ }
+    ensures { λ r. ⌜ Wrote (now (text .entry)) 0 (now (text .exit)) r (faultLine (checkMeaning8 checked)) ⌝ }
 {
     let Checked::Refused(fault) = checked else {
         return 0;
     };
-    put_fault(text, fault)
+    put_fault(text, 0, fault)
 }

@@ -1,5 +1,6 @@
--- `listing::list`: Room, and then the refusal's line or the message's text. Assumes nothing.
+-- `listing::list`: the whole text, handed over. Assumes nothing.
 use borrow.Author.Needs.{needs}
+<<<<<<< HEAD
 use mathlib.Core.Path.{_≡_, refl, sym, ap, _∙_}
 use mathlib.Core.List.{_∷_, []}
 use native.Mathlib.Omega.{arith}
@@ -58,22 +59,23 @@ returns-4 c =
     let m = message o in
     list-given _ _ _ (e .before .if1 .left) (e .if2 .left) (m .text-is) (m .after-is) (rw (part o) at (p .put-message .ensures))
 
+=======
+use mathlib.Core.Path.{refl, sym}
+use lib.Seq.{length-take-le}
+use Rattle.listing.proofs.Texts.{front-is, front-fits}
+use Rattle.listing.proofs.list.Statement.{statement}
+use Rattle.listing.proofs.list.Tie as tie
+
+>>>>>>> eb51775 (listing: only bytes and text are lent, Room exactly where the text does not fit; a refused packet has its line; contracts under 140 columns)
 pub list-spec : {M : Type 1} → statement M
 list-spec =
     tie.close
     (tie.spec
-    (λ c. list-no-words _ _ _ (c .if1 .taken))
-    (λ c. list-no-text _ _ _ (c .before .if1 .left) (c .if2 .taken))
-    (λ c κs. search needs)
     (λ c. search needs)
     (λ c. search needs)
     (λ c κs. search needs)
+    (λ c. front-fits (c .before .before .put-listing .ensures) refl)
+    (λ c. sym (length-take-le _ _ (front-fits (c .before .before .before .put-listing .ensures) refl)))
+    (λ c κs. search needs)
     (λ c. search needs)
-    (λ c. search needs)
-    returns-3
-    fits
-    (λ c. let o = c .before .before .before in message o .size ∙ ap length (sym (part o)))
-    requires
-    (λ c. search needs)
-    (λ c. search needs)
-    returns-4)
+    (λ c. let h = c .before .before in rw (front-is (h .before .before .before .before .before .put-listing .ensures) refl) at (h .hand .ensures)))

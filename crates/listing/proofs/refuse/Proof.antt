@@ -1,6 +1,8 @@
--- `listing::refuse`: Room, or the line. Assumes nothing.
+-- `listing::refuse`: the line, handed over. Assumes nothing.
 use borrow.Author.Needs.{needs}
-use Rattle.listing.proofs.Loading.{refuse-no-text, refuse-given}
+use mathlib.Core.Path.{refl, sym}
+use lib.Seq.{length-take-le}
+use Rattle.listing.proofs.Texts.{front-is, front-fits}
 use Rattle.listing.proofs.refuse.Statement.{statement}
 use Rattle.listing.proofs.refuse.Tie as tie
 
@@ -8,7 +10,10 @@ pub refuse-spec : {M : Type 1} → statement M
 refuse-spec =
     tie.close
     (tie.spec
-    (λ c. refuse-no-text _ _ _ (c .if1 .taken))
+    (λ c. search needs)
+    (λ c κs. search needs)
+    (λ c. front-fits (c .before .put-fault .ensures) refl)
+    (λ c. sym (length-take-le _ _ (front-fits (c .before .before .put-fault .ensures) refl)))
     (λ c κs. search needs)
     (λ c. search needs)
-    (λ c. let k = c .before .before in refuse-given _ _ _ (k .before .before .if1 .left) (k .put-fault .ensures)))
+    (λ c. let h = c .before .before in rw (front-is (h .before .before .before .before .put-fault .ensures) refl) at (h .hand .ensures)))

@@ -38,8 +38,9 @@ requires c κs =
     let s = c .before .before .before .before .before .before .before .before in
     rw (the-line (c .before .before)) (omega (arith, s .pre .2, length-line (s .args .words .now) (s .args .number) (omega (arith, s .pre .1, few-packets (s .args .words .now) _ (s .pre .0)))))
 
-returns : tie.Need-returns
-returns c = never-refused (sym (ap packetMeaning8 (c .enum-told .given .1)) ∙ read (c .before .before))
+-- so it is not refused
+not-refused : {A : Type 0} → tie.After-enum-told → A
+not-refused c = never-refused (sym (ap packetMeaning8 (c .enum-told .given .1)) ∙ read (c .before .before))
 
 returns-2 : tie.Need-returns-2
 returns-2 c = let k = c .before .before in rw (the-line (k .before .before .before)) at (k .put-line .ensures)
@@ -56,7 +57,9 @@ put-packet-spec =
     (λ c κs. search needs)
     (λ c. search needs)
     (λ c. search needs)
-    returns
+    (λ c κs. not-refused (c .before))
+    (λ c. search needs)
+    (λ c. not-refused (c .before .before .before .before))
     requires
     (λ c. search needs)
     returns-2)

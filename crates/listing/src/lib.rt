@@ -14,9 +14,6 @@ mod line;
 mod load;
 mod text;
 
-// As many words as a message may have.
-const WORDS: usize = 16384;
-
 // Bytes of text that are enough for every listing: 24 for each of 4,096 packets, and 256 for the other lines.
 pub const TEXT: usize = 98560;
 
@@ -59,7 +56,7 @@ fn hand(piece: &[u8], text: &mut [u8]) -> Listed
 pub fn list(bytes: &[u8], text: &mut [u8]) -> Listed
     ensures { λ r. ⌜ (listedMeaning r, now (text .exit)) ≡ handed (listing (now (bytes .entry))) (now (text .entry)) ⌝ }
 {
-    let mut words = [0u32; WORDS];
+    let mut words = [0u32; layout::MOST_WORDS];
     let mut whole = [0u8; TEXT];
     let size = put_listing(bytes, &mut words, &mut whole);
     hand(&whole[..size], text)

@@ -2,19 +2,12 @@
 ghost use mathlib.Core.Path.{_≡_};
 ghost use Prim.Native.Nat.{_*_, _≤_};
 ghost use lib.ListN.{length};
-ghost use Rattle.ump.specs.Word.{word, wordsOf};
+ghost use Rattle.ump.specs.Word.{wordsOf};
 ghost use Rattle.message.specs.Meaning.{checkMeaning8};
 ghost use Rattle.listing.specs.Steps.{over, load as Steps·load};
 use message::sysex8::Checked;
 use refusal::Fault;
 use refusal::Refusal;
-
-// The word of four bytes, highest first.
-fn word_of(first: u8, second: u8, third: u8, fourth: u8) -> u32
-    ensures { λ r. ⌜ r ≡ word first second third fourth ⌝ }
-{
-    first as u32 * 0x100_0000 + second as u32 * 0x1_0000 + third as u32 * 0x100 + fourth as u32
-}
 
 // Stores the words of the bytes, `count` of them.
 fn store_words(bytes: &[u8], words: &mut [u32], count: usize)
@@ -24,7 +17,7 @@ fn store_words(bytes: &[u8], words: &mut [u32], count: usize)
     let mut index = 0;
     while index < count {
         let at = 4 * index;
-        words[index] = word_of(bytes[at], bytes[at + 1], bytes[at + 2], bytes[at + 3]);
+        words[index] = layout::word_of(bytes[at], bytes[at + 1], bytes[at + 2], bytes[at + 3]);
         index += 1;
     }
 }

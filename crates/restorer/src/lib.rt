@@ -9,10 +9,10 @@ mod argument;
 pub mod output;
 
 use argument::Number;
-use console::Input;
 use libc::STDERR_FILENO;
 use libc::STDOUT_FILENO;
 use listing::Listed;
+use standard_input::Input;
 
 // The number that the program is called with.
 fn asked() -> Number {
@@ -25,8 +25,8 @@ fn asked() -> Number {
 }
 
 // Writes the dump of this number to standard output, at once; answers whether all of it was written.
-fn write_dump(store: &[u8], number: usize, words: &mut [u32], text: &mut [u8]) -> bool {
-    let written = output::write(store, number, words, text);
+fn write_dump(store: &[u8], number: usize, text: &mut [u8]) -> bool {
+    let written = output::write(store, number, text);
     let Listed::Text(size) = written else {
         return false;
     };
@@ -34,13 +34,13 @@ fn write_dump(store: &[u8], number: usize, words: &mut [u32], text: &mut [u8]) -
 }
 
 // Restores from the store on standard input; a failed read or write is told on standard error.
-fn restore_input(number: usize, bytes: &mut [u8], words: &mut [u32], text: &mut [u8]) {
-    let input = console::read_input(bytes);
+fn restore_input(number: usize, bytes: &mut [u8], text: &mut [u8]) {
+    let input = standard_input::read_input(bytes);
     let Input::Bytes(size) = input else {
         os::fail(b"sx8restore: read");
         return;
     };
-    if !write_dump(&bytes[..size], number, words, text) {
+    if !write_dump(&bytes[..size], number, text) {
         os::fail(b"sx8restore: write");
     }
 }
@@ -48,9 +48,8 @@ fn restore_input(number: usize, bytes: &mut [u8], words: &mut [u32], text: &mut 
 // Room for one byte over the longest store, which is enough to refuse a longer one, and for the longest message.
 fn restore_number(number: usize) {
     let mut bytes = [0u8; 1_048_577];
-    let mut words = [0u32; 16384];
     let mut text = [0u8; output::TEXT];
-    restore_input(number, &mut bytes, &mut words, &mut text);
+    restore_input(number, &mut bytes, &mut text);
 }
 
 // The program.

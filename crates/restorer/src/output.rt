@@ -1,32 +1,19 @@
 // What is written: the bytes of the restored words, or the line of a refusal.
 ghost use mathlib.Core.Path.{_≡_};
-ghost use Prim.Native.Nat.{_*_, _≤_, _<_};
+ghost use Prim.Native.Nat.{_*_, _≤_};
 ghost use lib.ListN.{length};
-ghost use Rattle.ump.specs.Word.{octet, octets};
-ghost use Rattle.listing.specs.Steps.{over};
+ghost use Rattle.ump.specs.Word.{octets};
+ghost use Rattle.listing.specs.Steps.{over, handed};
 ghost use Rattle.listing.specs.Meaning.{listedMeaning};
 ghost use Rattle.restore.specs.Meaning.{restoredMeaning};
-ghost use Rattle.restorer.specs.Output.{restoreLimited, write as Output·write};
+ghost use Rattle.restorer.specs.Output.{restoreLimited, output};
 use listing::Listed;
 use refusal::Fault;
 use refusal::Refusal;
 use restore::Restored;
 
-// The bytes of text to lend: four for each of 16,384 words.
-pub const TEXT: usize = 65536;
-
-// Byte `place` of a word, highest first.
-fn octet_of(word: u32, place: usize) -> u8
-    requires { ⌜ place < 4 ⌝ }
-    ensures { λ r. ⌜ r ≡ octet word place ⌝ }
-{
-    match place {
-        0 => (word / 0x100_0000 % 256) as u8,
-        1 => (word / 0x1_0000 % 256) as u8,
-        2 => (word / 0x100 % 256) as u8,
-        _ => (word % 256) as u8,
-    }
-}
+// Bytes of text that are enough for every message: four for each word.
+pub const TEXT: usize = 4 * layout::MOST_WORDS;
 
 // Writes the bytes of the words.
 fn put_words(text: &mut [u8], words: &[u32]) -> usize
@@ -37,10 +24,23 @@ fn put_words(text: &mut [u8], words: &[u32]) -> usize
     let size = 4 * words.len();
     let mut index = 0;
     while index < size {
-        text[index] = octet_of(words[index / 4], index % 4);
+        text[index] = layout::octet_of(words[index / 4], index);
         index += 1;
     }
     size
+}
+
+// Hands the bytes of the words over. Refuses Room where they do not fit.
+fn hand_words(words: &[u32], text: &mut [u8]) -> Listed
+    ensures { λ r. ⌜ (listedMeaning r, now (text .exit)) ≡ handed (octets (now (words .entry))) (now (text .entry)) ⌝ }
+{
+    if text.len() / 4 < words.len() {
+        return Listed::Refused(Fault {
+            refusal: Refusal::Room,
+            place: 0,
+        });
+    }
+    Listed::Text(put_words(text, words))
 }
 
 // Restores a dump from a store of at most 1,048,576 bytes; a longer one is Long.
@@ -56,21 +56,14 @@ fn restore_limited(store: &[u8], number: usize, words: &mut [u32]) -> Restored
     restore::restore(store, number, words)
 }
 
-// Restores the dump of this number in the words lent, and writes the words' bytes or the refusal's line into the text. Refuses Room where
-// fewer than `TEXT` bytes are lent.
-pub fn write(store: &[u8], number: usize, words: &mut [u32], text: &mut [u8]) -> Listed
-    ensures { λ r. ⌜ (listedMeaning r, (now (words .exit), now (text .exit)))
-        ≡ Output·write (now (store .entry)) number (now (words .entry)) (now (text .entry)) ⌝ }
+// Restores the dump of this number, and hands over the words' bytes or the refusal's line. Refuses Room where they do not fit.
+pub fn write(store: &[u8], number: usize, text: &mut [u8]) -> Listed
+    ensures { λ r. ⌜ (listedMeaning r, now (text .exit)) ≡ handed (output (now (store .entry)) number) (now (text .entry)) ⌝ }
 {
-    if text.len() < TEXT {
-        return Listed::Refused(Fault {
-            refusal: Refusal::Room,
-            place: 0,
-        });
-    }
-    let restored = restore_limited(store, number, words);
+    let mut words = [0u32; layout::MOST_WORDS];
+    let restored = restore_limited(store, number, &mut words);
     match restored {
         Restored::Refused(fault) => listing::refuse(fault, text),
-        Restored::Words(count) => Listed::Text(put_words(text, &words[..count])),
+        Restored::Words(count) => hand_words(&words[..count], text),
     }
 }

@@ -1,4 +1,4 @@
 // Lists the SysEx8 message on standard input, packet by packet.
 fn main() {
-    console::run();
+    listing_program::run();
 }

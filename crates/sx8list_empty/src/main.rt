@@ -1,4 +1,4 @@
 // The program on no bytes: refused 3.
 fn main() {
-    console::run();
+    listing_program::run();
 }

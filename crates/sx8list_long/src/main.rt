@@ -1,4 +1,4 @@
 // The program on 65,537 bytes: refused 1.
 fn main() {
-    console::run();
+    listing_program::run();
 }

@@ -4,15 +4,15 @@ use mathlib.Core.Path.{sym, subst}
 use Prim.Native.Nat.{_≤_}
 use lib.ListN.{length}
 use lib.Seq.{length-take-le}
-use Rattle.console.specs.Input.{sizeOf}
-use Rattle.console.specs.declared.Input as input
+use Rattle.standard_input.specs.Input.{bytesRead}
+use Rattle.standard_input.specs.declared.Input as input
 use Rattle.restorer.proofs.restore_input.Statement.{statement}
 use Rattle.restorer.proofs.restore_input.Tie as tie
 
 within : (c : tie.After-input) → let k = c .before .before .before .before in c .input .given .0 .0 ≤ length (k .read-input .last .0)
 within c =
     let k = c .before .before .before .before in
-    subst (λ (i : input.Input). sizeOf i ≤ length (k .read-input .last .0)) (c .input .given .1) (k .read-input .ensures)
+    subst (λ (i : input.Input). bytesRead i ≤ length (k .read-input .last .0)) (c .input .given .1) (k .read-input .ensures)
 
 pub restore-input-spec : {M : Type 1} → statement M
 restore-input-spec =
@@ -30,8 +30,6 @@ restore-input-spec =
     (λ c κs. search needs)
     (λ c. search needs)
     (λ c κs. search needs)
-    (λ c. search needs)
-    (λ c. search needs)
     (λ c. search needs)
     (λ c. search needs)
     (λ c. search needs)

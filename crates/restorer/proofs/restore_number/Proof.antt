@@ -12,6 +12,5 @@ restore-number-spec =
     (tie.spec
     (λ c. sym (length-replicate {0} {A = ℕ} 1048577 0))
     (λ c. search needs)
-    (λ c. search needs)
     (λ c κs. search needs)
     (λ c. search needs))

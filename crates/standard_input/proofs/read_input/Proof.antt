@@ -1,4 +1,4 @@
--- `console::read_input`: each turn brings a byte or more, so the room that is left falls. Assumes nothing.
+-- `standard_input::read_input`: each turn brings a byte or more, so the room that is left falls. Assumes nothing.
 use borrow.Author.Needs.{needs}
 use borrow.Rule.Slice.PartMut.{putMid, same-len-mid}
 use mathlib.Core.Path.{_≡_, refl, _∙_}
@@ -6,8 +6,8 @@ use mathlib.Core.List.{List}
 use Prim.Native.Nat.{ℕ, _+_, _-_, _≤_}
 use native.Mathlib.Omega.{arith}
 use lib.ListN.{length, length-take, length-drop}
-use Rattle.console.proofs.read_input.Statement.{statement}
-use Rattle.console.proofs.read_input.Tie as tie
+use Rattle.standard_input.proofs.read_input.Statement.{statement}
+use Rattle.standard_input.proofs.read_input.Tie as tie
 
 abbrev Inv-loop : tie.InvT-loop
 Inv-loop buffer₀ size₀ buffer size = (size ≤ length buffer) × (length buffer ≡ length buffer₀)

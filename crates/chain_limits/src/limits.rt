@@ -3,7 +3,7 @@ use chain::Basis;
 use chain::Description;
 use compare::is_byte;
 use compare::report;
-use compare::same_words;
+use equality::words::same_words;
 use restore::Restored;
 use stores::answers::check_gives;
 use stores::answers::check_refuses;

@@ -1,8 +1,8 @@
 // Samples of edits.
 use compare::MESSAGE;
-use compare::same_words;
 use edit::Edit;
 use edit::Moved;
+use equality::words::same_words;
 use splice::sysex8::Spliced;
 
 // The length of the message after a splice, or 0 if it is refused.

@@ -1,7 +1,7 @@
 // Samples of packing and splice.
 use compare::MESSAGE;
 use compare::is_fault;
-use compare::same_words;
+use equality::words::same_words;
 use splice::sysex8::Repacked;
 use splice::sysex8::Spliced;
 

@@ -1,6 +1,6 @@
 // Samples of too many dumps, and of large ones.
 use compare::report;
-use compare::same_words;
+use equality::words::same_words;
 use reclaims::collect_refuses_in;
 use reclaims::collects_in;
 use reclaims::many::mark_from;

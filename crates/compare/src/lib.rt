@@ -1,4 +1,19 @@
 // Answers compared with what document 01 says, and the line of a sample.
+ghost use mathlib.Core.Path.{_≡_};
+ghost use mathlib.Core.List.{[], _∷_};
+ghost use lib.ListN.{length, replicate};
+ghost use Rattle.refusal.specs.Answer.{gives, refused};
+ghost use Rattle.refusal.specs.Number.{numberOf};
+ghost use Rattle.refusal.specs.Meaning.{byteMeaning};
+ghost use Rattle.ump.specs.Packet.{sysex8};
+ghost use Rattle.ump.specs.Check.{checked as Check·checked};
+ghost use Rattle.ump.specs.Setters.{copyPayload};
+ghost use Rattle.ump.specs.Single.{readPacket8, readPacket7};
+ghost use Rattle.packet.specs.Meaning.{kindMeaning};
+ghost use Rattle.listing.specs.Listing.{listing};
+ghost use Rattle.listing.specs.Steps.{handed};
+ghost use Rattle.equality.specs.Tells.{Tells, Begins};
+ghost use Rattle.compare.specs.Facts.{codeOf, Says, Reads, Hands};
 use libc::STDOUT_FILENO;
 use listing::Listed;
 use message::sysex8::Checked;
@@ -35,7 +50,9 @@ pub fn report(name: &[u8], right: bool) {
 }
 
 // A refusal with this number and place.
-pub fn is_fault(fault: Fault, number: u8, place: usize) -> bool {
+pub fn is_fault(fault: Fault, number: u8, place: usize) -> bool
+    ensures { λ r. ⌜ Tells r ((numberOf (fault .refusal) ≡ number) × (fault .place ≡ place)) ⌝ }
+{
     let refusal = fault.refusal;
     if refusal::number(refusal) != number {
         return false;
@@ -43,23 +60,10 @@ pub fn is_fault(fault: Fault, number: u8, place: usize) -> bool {
     fault.place == place
 }
 
-// The words are the ones expected.
-pub fn same_words(words: &[u32], expected: &[u32]) -> bool {
-    if words.len() != expected.len() {
-        return false;
-    }
-    let mut at = 0;
-    while at < words.len() {
-        if words[at] != expected[at] {
-            return false;
-        }
-        at += 1;
-    }
-    true
-}
-
 // The first `size` of these bytes are the ones expected.
-fn begins(bytes: &[u8], size: usize, expected: &[u8]) -> bool {
+fn begins(bytes: &[u8], size: usize, expected: &[u8]) -> bool
+    ensures { λ r. ⌜ Tells r (Begins (now (bytes .entry)) size (now (expected .entry))) ⌝ }
+{
     if bytes.len() < size {
         return false;
     }
@@ -67,7 +71,10 @@ fn begins(bytes: &[u8], size: usize, expected: &[u8]) -> bool {
 }
 
 // The message in these words has this group, stream id and payload size.
-pub fn is_message(words: &[u32], group: u8, id: u8, size: usize) -> bool {
+pub fn is_message(words: &[u32], group: u8, id: u8, size: usize) -> bool
+    ensures { λ r. ⌜ Tells r (Says (Check·checked sysex8 (now (words .entry)) (length (now (words .entry)))) group (id ∷ []) size
+        (length (now (words .entry)))) ⌝ }
+{
     let checked = message::sysex8::check(words, words.len());
     let Checked::Message(found) = checked else {
         return false;
@@ -85,7 +92,9 @@ pub fn is_message(words: &[u32], group: u8, id: u8, size: usize) -> bool {
 }
 
 // The message in these words is refused so.
-pub fn is_refused(words: &[u32], number: u8, place: usize) -> bool {
+pub fn is_refused(words: &[u32], number: u8, place: usize) -> bool
+    ensures { λ r. ⌜ Tells r (Check·checked sysex8 (now (words .entry)) (length (now (words .entry))) ≡ refused number place) ⌝ }
+{
     let checked = message::sysex8::check(words, words.len());
     let Checked::Refused(fault) = checked else {
         return false;
@@ -94,7 +103,10 @@ pub fn is_refused(words: &[u32], number: u8, place: usize) -> bool {
 }
 
 // The payload of the message, copied to these bytes, is the one expected.
-fn copies(words: &[u32], expected: &[u8], bytes: &mut [u8]) -> bool {
+fn copies(words: &[u32], expected: &[u8], bytes: &mut [u8]) -> bool
+    ensures { λ r. ⌜ Tells r (Hands (copyPayload sysex8 (now (words .entry)) (length (now (words .entry))) (now (bytes .entry)))
+        (now (expected .entry))) ⌝ }
+{
     let copied = message::sysex8::payload(words, words.len(), bytes);
     let Copied::Size(size) = copied else {
         return false;
@@ -103,13 +115,18 @@ fn copies(words: &[u32], expected: &[u8], bytes: &mut [u8]) -> bool {
 }
 
 // The message in these words has this payload.
-pub fn has_payload(words: &[u32], expected: &[u8]) -> bool {
+pub fn has_payload(words: &[u32], expected: &[u8]) -> bool
+    ensures { λ r. ⌜ Tells r (Hands (copyPayload sysex8 (now (words .entry)) (length (now (words .entry))) (replicate 64 0))
+        (now (expected .entry))) ⌝ }
+{
     let mut bytes = [0u8; 64];
     copies(words, expected, &mut bytes)
 }
 
 // What a packet is: its status, or 4 and 5 for an unexpected end whose earlier data is valid or invalid.
-fn kind_code(kind: Kind) -> u8 {
+fn kind_code(kind: Kind) -> u8
+    ensures { λ r. ⌜ r ≡ codeOf (kindMeaning kind) ⌝ }
+{
     match kind {
         Kind::Complete => 0,
         Kind::Start => 1,
@@ -123,7 +140,9 @@ fn kind_code(kind: Kind) -> u8 {
 }
 
 // The SysEx8 packet in these words has this kind, group, stream id and payload size.
-pub fn is_packet8(words: &[u32], kind: u8, group: u8, id: u8, size: usize) -> bool {
+pub fn is_packet8(words: &[u32], kind: u8, group: u8, id: u8, size: usize) -> bool
+    ensures { λ r. ⌜ Tells r (Reads (readPacket8 (now (words .entry))) kind group (id ∷ []) size) ⌝ }
+{
     let read = packet::sysex8::read_packet(words);
     let packet::sysex8::PacketRead::Packet(found) = read else {
         return false;
@@ -142,7 +161,9 @@ pub fn is_packet8(words: &[u32], kind: u8, group: u8, id: u8, size: usize) -> bo
 }
 
 // The SysEx8 packet in these words is refused so.
-pub fn is_refused8(words: &[u32], number: u8) -> bool {
+pub fn is_refused8(words: &[u32], number: u8) -> bool
+    ensures { λ r. ⌜ Tells r (readPacket8 (now (words .entry)) ≡ refused number 0) ⌝ }
+{
     let read = packet::sysex8::read_packet(words);
     let packet::sysex8::PacketRead::Refused(fault) = read else {
         return false;
@@ -151,7 +172,9 @@ pub fn is_refused8(words: &[u32], number: u8) -> bool {
 }
 
 // The SysEx7 packet in these words has this kind, group and payload size.
-pub fn is_packet7(words: &[u32], kind: u8, group: u8, size: usize) -> bool {
+pub fn is_packet7(words: &[u32], kind: u8, group: u8, size: usize) -> bool
+    ensures { λ r. ⌜ Tells r (Reads (readPacket7 (now (words .entry))) kind group [] size) ⌝ }
+{
     let read = packet::sysex7::read_packet(words);
     let packet::sysex7::PacketRead::Packet(found) = read else {
         return false;
@@ -167,7 +190,9 @@ pub fn is_packet7(words: &[u32], kind: u8, group: u8, size: usize) -> bool {
 }
 
 // The SysEx7 packet in these words is refused so.
-pub fn is_refused7(words: &[u32], number: u8) -> bool {
+pub fn is_refused7(words: &[u32], number: u8) -> bool
+    ensures { λ r. ⌜ Tells r (readPacket7 (now (words .entry)) ≡ refused number 0) ⌝ }
+{
     let read = packet::sysex7::read_packet(words);
     let packet::sysex7::PacketRead::Refused(fault) = read else {
         return false;
@@ -176,7 +201,9 @@ pub fn is_refused7(words: &[u32], number: u8) -> bool {
 }
 
 // A byte was read, and it is this one.
-pub fn is_byte(read: ByteRead, value: u8) -> bool {
+pub fn is_byte(read: ByteRead, value: u8) -> bool
+    ensures { λ r. ⌜ Tells r (byteMeaning read ≡ gives value) ⌝ }
+{
     let ByteRead::Value(found) = read else {
         return false;
     };
@@ -184,8 +211,10 @@ pub fn is_byte(read: ByteRead, value: u8) -> bool {
 }
 
 // The listing of these bytes, written to this text, is the one expected.
-fn writes(bytes: &[u8], expected: &[u8], words: &mut [u32], text: &mut [u8]) -> bool {
-    let listed = listing::list(bytes, words, text);
+fn writes(bytes: &[u8], expected: &[u8], text: &mut [u8]) -> bool
+    ensures { λ r. ⌜ Tells r (Hands (handed (listing (now (bytes .entry))) (now (text .entry))) (now (expected .entry))) ⌝ }
+{
+    let listed = listing::list(bytes, text);
     let Listed::Text(size) = listed else {
         return false;
     };
@@ -193,8 +222,9 @@ fn writes(bytes: &[u8], expected: &[u8], words: &mut [u32], text: &mut [u8]) -> 
 }
 
 // The listing of these bytes is the one expected.
-pub fn lists(bytes: &[u8], expected: &[u8]) -> bool {
-    let mut words = [0u32; listing::WORDS];
+pub fn lists(bytes: &[u8], expected: &[u8]) -> bool
+    ensures { λ r. ⌜ Tells r (Hands (handed (listing (now (bytes .entry))) (replicate 98560 0)) (now (expected .entry))) ⌝ }
+{
     let mut text = [0u8; listing::TEXT];
-    writes(bytes, expected, &mut words, &mut text)
+    writes(bytes, expected, &mut text)
 }

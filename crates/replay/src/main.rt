@@ -1,6 +1,7 @@
 // Recorded answers on standard input, a line each, compared with ours: the number of each group and the lines that differ.
 mod input;
 mod record;
+mod reply;
 mod tally;
 
 // Room for the longest line and for the counts.

@@ -1,10 +1,12 @@
 // A record: what ours answers, compared with what is recorded.
 ghost use Prim.Native.Nat.{_≤_};
-use records::Parsed;
-use records::Record;
+use crate::reply;
+use equality::numbers::begin_with;
+use recorded_lines::Parsed;
+use recorded_lines::Record;
 
 // Room for our answer: one number over the longest that is recorded, so that one that fills it differs.
-const ROOM: usize = records::ANSWER + 1;
+const ROOM: usize = recorded_lines::ANSWER + 1;
 
 // A record's kind, whether it is of a listed difference, and whether ours answers as recorded.
 pub(crate) struct Compared {
@@ -26,24 +28,6 @@ pub(crate) fn least(count: usize, most: usize) -> usize
     if count < most { count } else { most }
 }
 
-// The first `count` numbers of an answer are the ones expected.
-fn same(answer: &[usize], count: usize, expected: &[usize]) -> bool {
-    if count != expected.len() {
-        return false;
-    }
-    if count > answer.len() {
-        return false;
-    }
-    let mut at = 0;
-    while at < count {
-        if answer[at] != expected[at] {
-            return false;
-        }
-        at += 1;
-    }
-    true
-}
-
 // Runs a record on the fronts of these slices that it fills, and compares.
 fn compare(
     record: Record,
@@ -56,7 +40,7 @@ fn compare(
     let word_count = least(record.words, words.len());
     let byte_count = least(record.bytes, bytes.len());
     let number_count = least(record.numbers, numbers.len());
-    let count = replies::reply(
+    let count = reply::reply(
         record.kind,
         &mut words[0..word_count],
         &bytes[0..byte_count],
@@ -70,7 +54,7 @@ fn compare(
     Replayed::Compared(Compared {
         kind: record.kind,
         listed: record.listed,
-        same: same(answer, count, &expected[0..expected_count]),
+        same: begin_with(answer, count, &expected[0..expected_count]),
     })
 }
 
@@ -83,7 +67,7 @@ fn replay_into(
     expected: &mut [usize],
     answer: &mut [usize],
 ) -> Replayed {
-    let parsed = records::parse(line, words, bytes, numbers, expected);
+    let parsed = recorded_lines::parse(line, words, bytes, numbers, expected);
     let Parsed::Record(record) = parsed else {
         return Replayed::NoRecord;
     };
@@ -92,10 +76,10 @@ fn replay_into(
 
 // Compares the record in a line.
 pub(crate) fn replay(line: &[u8]) -> Replayed {
-    let mut words = [0u32; records::WORDS];
-    let mut bytes = [0u8; records::BYTES];
-    let mut numbers = [0usize; records::NUMBERS];
-    let mut expected = [0usize; records::ANSWER];
+    let mut words = [0u32; recorded_lines::WORDS];
+    let mut bytes = [0u8; recorded_lines::BYTES];
+    let mut numbers = [0usize; recorded_lines::NUMBERS];
+    let mut expected = [0usize; recorded_lines::ANSWER];
     let mut answer = [0usize; ROOM];
     replay_into(
         line,

@@ -3,7 +3,7 @@ use chain::Basis;
 use chain::Described;
 use chain::Description;
 use compare::is_fault;
-use compare::same_words;
+use equality::words::same_words;
 use restore::Restored;
 use store::Checked;
 

@@ -2,7 +2,7 @@
 use crate::plain::refuses;
 use crate::plain::writes;
 use compare::is_fault;
-use compare::same_words;
+use equality::words::same_words;
 use stream::Written;
 
 // The most data bytes that 16,384 words hold, and the bytes of a stream that has so many, with a clock byte between all of them.

@@ -1,6 +1,6 @@
 // Samples of byte streams without real-time bytes, and what all samples use.
 use compare::is_fault;
-use compare::same_words;
+use equality::words::same_words;
 use stream::Written;
 
 // This stream in group 0 becomes so many words, and leaves the words expected.

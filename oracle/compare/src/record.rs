@@ -426,7 +426,7 @@ pub fn write(folder: &str, command: &str, seed: u64) -> Result<String, String> {
     let head = format!(
         "# Answers of the original, midi2 0.11.1, release build, made by: {command}\n\
          # KIND;WORDS;BYTES;NUMBERS;ANSWER in hex; on lines that end in the name of an entry of docs/DIFFERENCES.md and \
-         the original's answer, ANSWER is what document 01 demands. The kinds are in crates/replies/src/lib.rt.\n"
+         the original's answer, ANSWER is what document 01 demands. The kinds are in crates/replay/src/reply.rt.\n"
     );
     Ok(head + &sample.lines.join("\n") + "\n")
 }

@@ -1,0 +1,2 @@
+-- What the comparisons tell.
+pub mod Facts

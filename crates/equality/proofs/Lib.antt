@@ -1,0 +1,3 @@
+-- Laws of comparisons.
+pub mod Telling
+pub mod Alike

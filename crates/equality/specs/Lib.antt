@@ -1,0 +1,2 @@
+-- What the answer of a comparison says.
+pub mod Tells

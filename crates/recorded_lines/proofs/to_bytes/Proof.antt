@@ -1,0 +1,36 @@
+-- `recorded_lines::to_bytes`: both slices hold as many. Assumes nothing.
+use mathlib.Core.Path.{_≡_}
+use Prim.Native.Nat.{_-_, _≤_}
+use lib.ListN.{length}
+use borrow.Author.Needs.{needs}
+use Rattle.recorded_lines.proofs.to_bytes.Statement.{statement}
+use Rattle.recorded_lines.proofs.to_bytes.Tie as tie
+
+abbrev Inv-loop : tie.InvT-loop
+Inv-loop values count bytes₀ at₀ bytes at = (at ≤ count) × (count ≤ length values) × (count ≤ length bytes₀) × (length bytes ≡ length bytes₀)
+
+abbrev μ-loop : tie.MeasureT-loop
+μ-loop values count bytes₀ at₀ bytes at = count - at
+
+pub to-bytes-spec : {M : Type 1} → statement M
+to-bytes-spec =
+    tie.close
+    (tie.spec
+    Inv-loop
+    μ-loop
+    (λ c. search needs)
+    (λ c. search needs)
+    (λ c. search needs)
+    (λ c. search needs)
+    (λ c. search needs)
+    (λ c. search needs)
+    (λ c. search needs)
+    (λ c. search needs)
+    (λ c. search needs)
+    (λ c. search needs)
+    (λ c. search needs)
+    (λ c. search needs)
+    (λ c. search needs)
+    (λ c. search needs)
+    (λ c. search needs)
+    (λ c. search needs))

@@ -5,15 +5,9 @@ use mathlib.Core.List.{List, _++_}
 use Prim.Native.Nat.{ℕ, _+_}
 use lib.Dec.{ltb}
 use lib.ListN.{length, take, drop}
-<<<<<<< HEAD
-use Rattle.refusal.specs.Answer.{Answer, gives, refused}
-use Rattle.ump.specs.Limits.{mostWords}
-use Rattle.ump.specs.Check.{Summary}
-=======
 use Rattle.refusal.specs.Answer.{Answer, gives, refused, pass, guard, writes}
 use Rattle.ump.specs.Packet.{sysex8}
 use Rattle.ump.specs.Check.{Summary, check}
->>>>>>> eb51775 (listing: only bytes and text are lent, Room exactly where the text does not fit; a refused packet has its line; contracts under 140 columns)
 use Rattle.ump.specs.Single.{Kind, complete, start, continue, end, unexpectedEnd}
 use Rattle.packet.specs.Meaning.{kindMeaning}
 use Rattle.packet.specs.declared.sysex8.Packet.{Packet}
@@ -53,19 +47,6 @@ wordsAfter (refused number place) old = old
 unfoldable pub load : List ℕ → List ℕ → Answer Summary × List ℕ
 load bytes words = (checkedIn (wordsIn bytes), wordsAfter (wordsIn bytes) words)
 
-<<<<<<< HEAD
--- Room where fewer than 16,384 words or 98,560 bytes of text are lent; else the size of the listing, the words and the text after
-unfoldable pub list : List ℕ → List ℕ → List ℕ → Answer ℕ × (List ℕ × List ℕ)
-list bytes words text =
-    cond (ltb (length words) mostWords || ltb (length text) 98560) (refused 14 0, (words, text))
-    (gives (length (listing bytes)), (wordsAfter (wordsIn bytes) words, over (listing bytes) text))
-
--- the line of a refusal alone: Room where fewer than 64 bytes are lent; else its size, and the text after
-unfoldable pub refuse : ℕ → ℕ → List ℕ → Answer ℕ × List ℕ
-refuse number place text =
-    cond (ltb (length text) 64) (refused 14 0, text) (gives (length (refusalLine number place)), over (refusalLine number place) text)
-=======
 -- a piece of text handed over: Room where it does not fit; else its size, and the text lent after
 unfoldable pub handed : List ℕ → List ℕ → Answer ℕ × List ℕ
 handed piece text = writes (guard (ltb (length text) (length piece)) 14 0) text (length piece) (over piece text)
->>>>>>> eb51775 (listing: only bytes and text are lent, Room exactly where the text does not fit; a refused packet has its line; contracts under 140 columns)

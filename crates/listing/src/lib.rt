@@ -3,6 +3,7 @@ ghost use mathlib.Core.Path.{_≡_};
 ghost use Prim.Native.Nat.{_≤_};
 ghost use lib.ListN.{length};
 ghost use Rattle.refusal.specs.Number.{numberOf};
+ghost use Rattle.ump.specs.Limits.{mostWords};
 ghost use Rattle.listing.specs.Listing.{listing, refusalLine};
 ghost use Rattle.listing.specs.Steps.{Wrote, handed};
 ghost use Rattle.listing.specs.Meaning.{listedMeaning};
@@ -28,7 +29,7 @@ pub enum Listed {
 
 // Writes the text of the message whose words these bytes are: the refusal's line, or the heading, a line for each packet and the totals.
 fn put_listing(bytes: &[u8], words: &mut [u32], text: &mut [u8]) -> usize
-    requires { ⌜ (16384 ≤ length (now words)) × (98560 ≤ length (now text)) ⌝ }
+    requires { ⌜ (mostWords ≤ length (now words)) × (98560 ≤ length (now text)) ⌝ }
     ensures { λ r. ⌜ Wrote (now (text .entry)) 0 (now (text .exit)) r (listing (now (bytes .entry))) ⌝ }
 {
     let checked = load::load(bytes, words);

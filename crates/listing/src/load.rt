@@ -3,6 +3,7 @@ ghost use mathlib.Core.Path.{_≡_};
 ghost use Prim.Native.Nat.{_*_, _≤_};
 ghost use lib.ListN.{length};
 ghost use Rattle.ump.specs.Word.{wordsOf};
+ghost use Rattle.ump.specs.Limits.{mostWords};
 ghost use Rattle.message.specs.Meaning.{checkMeaning8};
 ghost use Rattle.listing.specs.Steps.{over, load as Steps·load};
 use message::sysex8::Checked;
@@ -24,7 +25,7 @@ fn store_words(bytes: &[u8], words: &mut [u32], count: usize)
 
 // Over 65,536 bytes is Long, else under 16 is Short, else not divisible by 16 is Ragged; else the words are stored and checked.
 pub(crate) fn load(bytes: &[u8], words: &mut [u32]) -> Checked
-    requires { ⌜ 16384 ≤ length (now words) ⌝ }
+    requires { ⌜ mostWords ≤ length (now words) ⌝ }
     ensures { λ r. ⌜ (checkMeaning8 r, now (words .exit)) ≡ Steps·load (now (bytes .entry)) (now (words .entry)) ⌝ }
 {
     let size = bytes.len();

@@ -10,6 +10,7 @@ use lib.ListN.{length, take, replicate, length-append}
 use Rattle.refusal.specs.Answer.{Answer, gives, refused, _▷_, guard}
 use Rattle.refusal.proofs.Laws.{never-both}
 use Rattle.ump.specs.Word.{octets}
+use Rattle.ump.specs.Limits.{mostWords}
 use Rattle.ump.specs.Packet.{sysex8}
 use Rattle.ump.specs.Packing.{pack, wordsFor}
 use Rattle.ump.proofs.Packing.{length-pack}
@@ -47,7 +48,7 @@ within-restore : (store : List ℕ) (number : ℕ) (words after : List ℕ) (cou
     → _≡_ {A = Answer ℕ × List ℕ} (gives count, after) (restore store number words) → count ≤ length after
 unfolding restore
 within-restore store number words after count e = within-answer words after count
-    (guard (ltb 16384 (length words)) 1 0 ▷ sound store ▷ restored (paper.exceeds (length words)) (dumpsOf store) (suc (length (dumpsOf store))) number)
+    (guard (ltb mostWords (length words)) 1 0 ▷ sound store ▷ restored (paper.exceeds (length words)) (dumpsOf store) (suc (length (dumpsOf store))) number)
     e
 
 pub within : (store : List ℕ) (number : ℕ) (words after : List ℕ) (count : ℕ)
@@ -63,12 +64,12 @@ within store number words after count e = go (ltb 1048576 (length store)) e
 -- ---- what is written
 
 module _ (store : List ℕ) (number : ℕ) {after : List ℕ} where
-  pub output-words : {count : ℕ} → _≡_ {A = Answer ℕ × List ℕ} (gives count, after) (restoreLimited store number (replicate 16384 0))
+  pub output-words : {count : ℕ} → _≡_ {A = Answer ℕ × List ℕ} (gives count, after) (restoreLimited store number (replicate mostWords 0))
       → output store number ≡ octets (take count after)
   unfolding output
   output-words e = ap outputOf (sym e)
 
-  pub output-line : {k p : ℕ} → _≡_ {A = Answer ℕ × List ℕ} (refused k p, after) (restoreLimited store number (replicate 16384 0))
+  pub output-line : {k p : ℕ} → _≡_ {A = Answer ℕ × List ℕ} (refused k p, after) (restoreLimited store number (replicate mostWords 0))
       → output store number ≡ refusalLine k p
   unfolding output
   output-line e = ap outputOf (sym e)

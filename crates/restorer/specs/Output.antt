@@ -7,6 +7,7 @@ use lib.Dec.{ltb}
 use lib.ListN.{length, take, replicate}
 use Rattle.refusal.specs.Answer.{Answer, gives, refused}
 use Rattle.ump.specs.Word.{octets}
+use Rattle.ump.specs.Limits.{mostWords}
 use Rattle.listing.specs.Listing.{refusalLine}
 use Rattle.chain.specs.Restore.{restore}
 
@@ -18,6 +19,6 @@ abbrev pub outputOf : Answer ℕ × List ℕ → List ℕ
 outputOf (gives count, words) = octets (take count words)
 outputOf (refused number place, words) = refusalLine number place
 
--- what is written, with 16,384 words lent to restoring
+-- what is written, with as many words lent to restoring as a message may have
 unfoldable pub output : List ℕ → ℕ → List ℕ
-output store number = outputOf (restoreLimited store number (replicate 16384 0))
+output store number = outputOf (restoreLimited store number (replicate mostWords 0))

@@ -6,6 +6,7 @@ use native.Mathlib.Omega.{arith}
 use lib.ListN.{length, take, drop}
 use lib.Seq.{take-at}
 use Rattle.ump.specs.Word.{wordsOf}
+use Rattle.ump.specs.Check.{summary}
 use Rattle.ump.specs.Packet.{sysex8}
 use Rattle.ump.proofs.Checks.{passes-valid}
 use Rattle.message.specs.Meaning.{checkMeaning8}
@@ -15,7 +16,7 @@ use Rattle.listing.proofs.put_listing.Tie as tie
 
 -- a message that passed
 message : (c : tie.After-checked) → let k = c .before .before .before .before in let s = k .before .before .before .before .before in let m = c .checked .given .0 .0 in
-    Loaded (s .args .bytes .now) (s .args .words .now) (k .load .last .1 .0) (record { group = m .group; id = m .id ∷ []; size = m .size; words = m .words })
+    Loaded (s .args .bytes .now) (s .args .words .now) (k .load .last .1 .0) (summary (m .group) (m .id ∷ []) (m .size) (m .words))
 message c =
     let k = c .before .before .before .before in
     loaded _ _ _ _ (ap (λ x. (checkMeaning8 x, k .load .last .1 .0)) (sym (c .checked .given .1)) ∙ k .load .ensures)

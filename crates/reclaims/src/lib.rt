@@ -3,6 +3,7 @@
 pub mod many;
 
 use compare::is_fault;
+use equality::padded::padded_bytes;
 use reclaim::Collected;
 use reclaim::Marked;
 use store::record::byte;
@@ -20,18 +21,6 @@ pub fn copy(store: &[u8], lent: &mut [u8]) {
         lent[index] = byte(store, index);
         index += 1;
     }
-}
-
-// The bytes are these, and then zeros.
-fn is_left(bytes: &[u8], kept: &[u8]) -> bool {
-    let mut index = 0;
-    while index < bytes.len() {
-        if bytes[index] != byte(kept, index) {
-            return false;
-        }
-        index += 1;
-    }
-    true
 }
 
 // Marking the dump of this number is accepted, and leaves these bytes.
@@ -87,7 +76,7 @@ fn collects_to(lent: &mut [u8], kept: &[u8]) -> bool {
             if length != kept.len() {
                 return false;
             }
-            is_left(lent, kept)
+            padded_bytes(lent, kept)
         }
         Collected::Refused(_) => false,
     }

@@ -3,6 +3,7 @@ use chain::Basis;
 use chain::Described;
 use chain::Description;
 use compare::is_fault;
+use equality::padded::padded_words;
 use equality::words::same_words;
 use restore::Restored;
 use store::Checked;
@@ -25,26 +26,6 @@ pub fn check_refuses(store: &[u8], refusal: u8) -> bool {
     is_fault(fault, refusal, 0)
 }
 
-// The word expected at an index: one of the message, or zero past it.
-fn word_or_zero(message: &[u32], index: usize) -> u32 {
-    if index < message.len() {
-        return message[index];
-    }
-    0
-}
-
-// The words are this message and then zeros.
-fn is_laid_out(words: &[u32], message: &[u32]) -> bool {
-    let mut index = 0;
-    while index < words.len() {
-        if words[index] != word_or_zero(message, index) {
-            return false;
-        }
-        index += 1;
-    }
-    true
-}
-
 // The dump of this number is restored to this message, and all words lent past it are zero.
 pub fn restores_in(store: &[u8], number: usize, words: &mut [u32], message: &[u32]) -> bool {
     let restored = restore::restore(store, number, words);
@@ -54,7 +35,7 @@ pub fn restores_in(store: &[u8], number: usize, words: &mut [u32], message: &[u3
     if count != message.len() {
         return false;
     }
-    is_laid_out(words, message)
+    padded_words(words, message)
 }
 
 // The same, with eight words lent.

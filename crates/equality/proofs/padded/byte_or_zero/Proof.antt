@@ -1,0 +1,12 @@
+-- `equality::padded::byte_or_zero`: past the end stands nothing. Assumes nothing.
+use borrow.Author.Needs.{needs}
+use mathlib.Core.Path.{sym}
+use lib.ListN.{List·getD-eq-default}
+use Rattle.equality.proofs.padded.byte_or_zero.Statement.{statement}
+use Rattle.equality.proofs.padded.byte_or_zero.Tie as tie
+
+returns-2 : tie.Need-returns-2
+returns-2 c = sym (List·getD-eq-default (c .before .args .front .now) 0 (c .if1 .left))
+
+pub byte-or-zero-spec : {M : Type 1} → statement M
+byte-or-zero-spec = tie.close (tie.spec (λ c. search needs) (λ c. search needs) returns-2)

@@ -1,5 +1,10 @@
 // Lines of recorded answers taken apart: KIND;WORDS;BYTES;NUMBERS;ANSWER, and ; with a text on the line of a listed difference.
 // Numbers are upper-case hex, those of a list one space apart; an empty field is an empty list.
+ghost use mathlib.Core.Path.{_≡_};
+ghost use mathlib.Core.Bool.{true};
+ghost use Prim.Native.Nat.{_≤_};
+ghost use lib.ListN.{length};
+ghost use Rattle.recorded_lines.specs.Fits.{FieldFits, RecordFits};
 
 // The most words of a record.
 pub const WORDS: usize = 512;
@@ -69,7 +74,9 @@ fn number_at(line: &[u8], from: usize) -> Number {
 }
 
 // The numbers from a place on, one space apart, up to a ; or the line's end: one or more.
-fn list(line: &[u8], from: usize, values: &mut [usize]) -> Field {
+fn list(line: &[u8], from: usize, values: &mut [usize]) -> Field
+    ensures { λ r. ⌜ FieldFits r (length (now (values .entry))) ⌝ }
+{
     let mut at = from;
     let mut count = 0;
     while count < values.len() {
@@ -95,7 +102,9 @@ fn list(line: &[u8], from: usize, values: &mut [usize]) -> Field {
 }
 
 // The numbers of the field whose ; stands at a place; an empty field has none.
-fn field_at(line: &[u8], from: usize, values: &mut [usize]) -> Field {
+fn field_at(line: &[u8], from: usize, values: &mut [usize]) -> Field
+    ensures { λ r. ⌜ FieldFits r (length (now (values .entry))) ⌝ }
+{
     if from >= line.len() {
         return Field::Wrong;
     }
@@ -113,7 +122,9 @@ fn field_at(line: &[u8], from: usize, values: &mut [usize]) -> Field {
 }
 
 // Copies the first values to words; answers whether all fit.
-fn to_words(values: &[usize], count: usize, words: &mut [u32]) -> bool {
+fn to_words(values: &[usize], count: usize, words: &mut [u32]) -> bool
+    ensures { λ r. ⌜ (r ≡ true → count ≤ length (now (words .entry))) ⌝ }
+{
     if count > values.len() {
         return false;
     }
@@ -132,7 +143,9 @@ fn to_words(values: &[usize], count: usize, words: &mut [u32]) -> bool {
 }
 
 // Copies the first values to bytes; answers whether all fit.
-fn to_bytes(values: &[usize], count: usize, bytes: &mut [u8]) -> bool {
+fn to_bytes(values: &[usize], count: usize, bytes: &mut [u8]) -> bool
+    ensures { λ r. ⌜ (r ≡ true → count ≤ length (now (bytes .entry))) ⌝ }
+{
     if count > values.len() {
         return false;
     }
@@ -151,7 +164,9 @@ fn to_bytes(values: &[usize], count: usize, bytes: &mut [u8]) -> bool {
 }
 
 // A field of words, by way of these values.
-fn words_by(line: &[u8], from: usize, values: &mut [usize], words: &mut [u32]) -> Field {
+fn words_by(line: &[u8], from: usize, values: &mut [usize], words: &mut [u32]) -> Field
+    ensures { λ r. ⌜ FieldFits r (length (now (words .entry))) ⌝ }
+{
     let read = field_at(line, from, values);
     let Field::Numbers(count, next) = read else {
         return Field::Wrong;
@@ -164,13 +179,17 @@ fn words_by(line: &[u8], from: usize, values: &mut [usize], words: &mut [u32]) -
 }
 
 // A field of words.
-fn word_field(line: &[u8], from: usize, words: &mut [u32]) -> Field {
+fn word_field(line: &[u8], from: usize, words: &mut [u32]) -> Field
+    ensures { λ r. ⌜ FieldFits r (length (now (words .entry))) ⌝ }
+{
     let mut values = [0usize; WORDS];
     words_by(line, from, &mut values, words)
 }
 
 // A field of bytes, by way of these values.
-fn bytes_by(line: &[u8], from: usize, values: &mut [usize], bytes: &mut [u8]) -> Field {
+fn bytes_by(line: &[u8], from: usize, values: &mut [usize], bytes: &mut [u8]) -> Field
+    ensures { λ r. ⌜ FieldFits r (length (now (bytes .entry))) ⌝ }
+{
     let read = field_at(line, from, values);
     let Field::Numbers(count, next) = read else {
         return Field::Wrong;
@@ -183,7 +202,9 @@ fn bytes_by(line: &[u8], from: usize, values: &mut [usize], bytes: &mut [u8]) ->
 }
 
 // A field of bytes.
-fn byte_field(line: &[u8], from: usize, bytes: &mut [u8]) -> Field {
+fn byte_field(line: &[u8], from: usize, bytes: &mut [u8]) -> Field
+    ensures { λ r. ⌜ FieldFits r (length (now (bytes .entry))) ⌝ }
+{
     let mut values = [0usize; BYTES];
     bytes_by(line, from, &mut values, bytes)
 }
@@ -195,7 +216,10 @@ pub fn parse(
     bytes: &mut [u8],
     numbers: &mut [usize],
     expected: &mut [usize],
-) -> Parsed {
+) -> Parsed
+    ensures { λ r. ⌜ RecordFits r (length (now (words .entry))) (length (now (bytes .entry))) (length (now (numbers .entry)))
+        (length (now (expected .entry))) ⌝ }
+{
     let kind = number_at(line, 0);
     let first = word_field(line, kind.next, words);
     let Field::Numbers(word_count, behind_words) = first else {

@@ -1,0 +1,2 @@
+-- What the parts of a line fit.
+pub mod Fits

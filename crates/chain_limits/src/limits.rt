@@ -1,9 +1,9 @@
 // Samples of many dumps, of long walks and of large payloads.
 use chain::Basis;
 use chain::Description;
-use compare::is_byte;
 use compare::report;
 use equality::words::same_words;
+use message::sysex8::Copied;
 use restore::Restored;
 use stores::answers::check_gives;
 use stores::answers::check_refuses;
@@ -73,17 +73,28 @@ pub(crate) fn report_counts() {
     report(b"65,537 dumps", all_numbers_and_one());
 }
 
+// Writes FF down to 01, and zeros behind them.
+fn count_down(bytes: &mut [u8]) {
+    let mut at = 0;
+    while at < bytes.len() {
+        bytes[at] = if at < 255 { 255 - at as u8 } else { 0 };
+        at += 1;
+    }
+}
+
 // The message in these words has 261 bytes: FF down to 01, and six zeros.
 fn counts_down(words: &[u32]) -> bool {
-    let mut index = 0;
-    while index < 261 {
-        let expected = if index < 255 { 255 - index as u8 } else { 0 };
-        if !is_byte(message::sysex8::byte(words, 84, index), expected) {
-            return false;
-        }
-        index += 1;
+    let mut expected = [9u8; 261];
+    count_down(&mut expected);
+    let mut bytes = [9u8; 261];
+    let copied = message::sysex8::payload(words, 84, &mut bytes);
+    let Copied::Size(size) = copied else {
+        return false;
+    };
+    if size != 261 {
+        return false;
     }
-    true
+    check::same(&bytes, &expected)
 }
 
 // Each of 255 deltas puts its number in at the start.

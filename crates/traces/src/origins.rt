@@ -11,8 +11,10 @@ struct Row {
     index: usize,
 }
 
-// How many characters a row has.
+// How many characters a row has, and at most a table.
 const WIDTH: usize = 6;
+
+const MOST: usize = 128;
 
 // The edits of P8: 0..1 by two bytes, 2..3 by nothing.
 const EDITS: [usize; 6] = [0usize, 1, 2, 2, 3, 0];
@@ -42,30 +44,56 @@ fn row_of(origin: OctetOrigin) -> Row {
     }
 }
 
-// The number of two digits.
-fn two_digits(tens: u8, ones: u8) -> usize {
-    (tens % 16) as usize * 10 + (ones % 16) as usize
+// A decimal digit; a question mark for a number that is none.
+fn digit(value: usize) -> u8 {
+    if value < 10 { 48 + value as u8 } else { b'?' }
 }
 
-// An origin is the one that the row at this character says.
-fn is_row(origin: OctetOrigin, table: &[u8], at: usize) -> bool {
-    if table.len() < WIDTH {
-        return false;
+// The character of a row in a column.
+fn character(row: Row, column: usize) -> u8 {
+    match column {
+        0 => row.kind,
+        1 => digit(row.number / 10),
+        2 => digit(row.number % 10),
+        3 => digit(row.index / 10),
+        4 => digit(row.index % 10),
+        _ => b' ',
     }
-    if table.len() - WIDTH < at {
-        return false;
-    }
+}
+
+// An origin is the one that this row says.
+fn is_row(origin: OctetOrigin, expected: &[u8]) -> bool {
     let row = row_of(origin);
-    if row.kind != table[at] {
-        return false;
-    }
-    if row.number != two_digits(table[at + 1], table[at + 2]) {
-        return false;
-    }
-    row.index == two_digits(table[at + 3], table[at + 4])
+    let text = [
+        character(row, 0),
+        character(row, 1),
+        character(row, 2),
+        character(row, 3),
+        character(row, 4),
+        character(row, 5),
+    ];
+    check::same(&text, expected)
 }
 
-// The octets from `first` on come from where the rows say.
+// Writes the rows of the octets from `first` on, as many as there is room for.
+fn write_rows(
+    words: &[u32],
+    length: usize,
+    numbers: &[usize],
+    bytes: &[u8],
+    first: u16,
+    rows: &mut [u8],
+) {
+    let mut at = 0;
+    while at < rows.len() {
+        let octet = first as usize + at / WIDTH;
+        let origin = edit::origin(words, length, numbers, bytes, octet);
+        rows[at] = character(row_of(origin), at % WIDTH);
+        at += 1;
+    }
+}
+
+// The octets from `first` on come from where the table says.
 fn agrees(
     words: &[u32],
     length: usize,
@@ -74,17 +102,13 @@ fn agrees(
     first: u16,
     table: &[u8],
 ) -> bool {
-    let count = table.len() / WIDTH;
-    let mut row = 0;
-    while row < count {
-        let octet = first as usize + row;
-        let origin = edit::origin(words, length, numbers, bytes, octet);
-        if !is_row(origin, table, WIDTH * row) {
-            return false;
-        }
-        row += 1;
+    let size = table.len();
+    if size > MOST {
+        return false;
     }
-    true
+    let mut rows = [0u8; MOST];
+    write_rows(words, length, numbers, bytes, first, &mut rows[..size]);
+    check::same(&rows[..size], table)
 }
 
 // The octets from `first` on, of P2's message with 10..1C put in at 1, in these words.
@@ -169,7 +193,7 @@ pub(crate) fn behind() -> bool {
         return false;
     }
     let last = edit::origin(&words, 12, &EDITS, b"\xB0\xB1", 0xFFFF_FFFF_FFFF_FFFF);
-    is_row(last, b"R1300 ", 0)
+    is_row(last, b"R1300 ")
 }
 
 // P5's message said to have another length: 2, 3, 4, and cut off 6, 9 at 4.

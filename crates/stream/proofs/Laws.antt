@@ -1,38 +1,33 @@
 -- Laws of the bytes that are taken. Assumes nothing.
 use mathlib.Core.Path.{_≡_, refl, sym, _∙_}
 use mathlib.Core.List.{List, []}
-use Prim.Native.Nat.{ℕ, zero, suc, _+_, _-_, _*_, _/_, _%_, _^_, _≤_, _<_, min}
-use native.Mathlib.Nat.{add-zero, add-suc, add-assoc, mul-assoc, mod-eq-of-lt, pow-suc, mul-le-mul-right, suc-mul, pow-le-pow-right}
+use Prim.Native.Nat.{ℕ, _+_, _-_, _*_, _/_, _%_, _^_, _≤_, _<_, min}
+use native.Mathlib.Nat.{add-assoc, mod-eq-of-lt, mul-le-mul-right, suc-mul, pow-le-pow-right}
 use native.Mathlib.Numerals.{add-one}
 use native.Mathlib.Omega.{arith}
 use lib.Bits.{bitAnd, and-block, and-high}
 use lib.Dec.{lit<}
 use lib.ListN.{length, getD, drop, length-drop, drop-of-length-le}
-use lib.Pow.{pow-add}
-use lib.Seq.{getD-drop, drop-cons, drop-drop}
+use lib.Seq.{drop-cons, drop-drop}
 use borrow.Author.Tests.{le-ltb, lt-ltb}
 use Rattle.ump.specs.Word.{Below, pairAt}
+use Rattle.flow.specs.Digits.{val}
+use Rattle.flow.proofs.Digits.{powers, val-split, val-fits, val-pad, val-one}
 use Rattle.ump.proofs.First.{Side, under, over, side}
-use Rattle.ump.proofs.Words.{below-drop, below-getD, below-at}
+use Rattle.ump.proofs.Words.{below-drop, below-at}
 use Rattle.ump.proofs.Without.{length-without, below-without}
-use Rattle.stream.specs.Steps.{onward, octetsOf, fourAt, Took, TookSix, Filled}
+use Rattle.stream.specs.Steps.{onward, fourAt, Took, TookSix, Filled}
 
 -- ---- bytes that are taken
 
-octets-add : (m n : ℕ) (l : List ℕ) → octetsOf (m + n) l ≡ octetsOf m l * 256 ^ n + octetsOf n (drop m l)
-octets-add m zero l = rw (add-zero m) (omega arith)
-octets-add m (suc n) l =
-    rw (add-suc, octets-add m n l, getD-drop m l n 0, pow-suc 256 n)
-    (omega (arith, mul-assoc (octetsOf m l) (256 ^ n) 256))
-
 took-both : {m n x y : ℕ} {before middle after : List ℕ} → Took m before x middle → Took n middle y after
-    → Took (m + n) before (x * 256 ^ n + y) after
+    → Took (m + n) before (x * 2 ^ (8 * n) + y) after
 took-both {m} {n} {x} {y} {before} {middle} {after} h k =
     record {
-      value = rw (h .value, k .value, h .rest) (sym (octets-add m n before));
+      value = rw (h .value, k .value, h .rest) (sym (val-split m n before));
       small =
-          rw (pow-add 256 m n)
-          (omega (arith, suc-mul x (256 ^ n), mul-le-mul-right (256 ^ n) (h .small), k .small));
+          rw (powers m n)
+          (omega (arith, suc-mul x (2 ^ (8 * n)), mul-le-mul-right (2 ^ (8 * n)) (h .small), k .small));
       rest = k .rest ∙ rw (h .rest) (drop-drop n m before);
     }
 
@@ -41,7 +36,7 @@ module _ (inner : List ℕ) (at : ℕ) where
   took-byte : at < length inner → getD inner at 0 < 0xF8 → Took 1 (onward inner at) (getD inner at 0) (onward inner (at + 1))
   took-byte h l =
       let d = le-ltb 0xF7 (getD inner at 0) (omega arith) in
-      rw (drop-cons inner at 0 h, d, add-one) (record { value = omega arith; small = omega arith; rest = refl })
+      rw (drop-cons inner at 0 h, d, add-one) (record { value = sym (val-one _); small = omega arith; rest = refl })
 
   onward-skip : at < length inner → 0xF8 ≤ getD inner at 0 → onward inner (at + 1) ≡ onward inner at
   onward-skip h l = rw (drop-cons inner at 0 h, lt-ltb 0xF7 (getD inner at 0) l, add-one)
@@ -60,6 +55,7 @@ pub record Taking (inner : List ℕ) (at count octets taken next : ℕ) : Type 0
   pub within : taken ≤ count
 
 pub taking-none : {inner : List ℕ} {at count : ℕ} → Taking inner at count 0 0 at
+unfolding val
 taking-none = record { so-far = record { value = refl; small = lit< tt; rest = refl }; within = omega arith }
 
 module _ {inner : List ℕ} {at count octets taken next : ℕ} (t : Taking inner at count octets taken next) (h : taken < count) where
@@ -73,9 +69,10 @@ module _ {inner : List ℕ} {at count octets taken next : ℕ} (t : Taking inner
   taking-clock k l = record { so-far = rw (onward-skip inner next k l) (t .so-far); within = t .within }
 
 -- six octets at most fit a number of 48 bits
-pub took-small : {taken octets : ℕ} {before after : List ℕ} → Took taken before octets after → taken ≤ 6 → octets < 256 ^ 6
+pub took-small : {taken octets : ℕ} {before after : List ℕ} → Took taken before octets after → taken ≤ 6 → octets < 2 ^ 48
 took-small {taken} t h =
-    let l : 256 ^ taken ≤ 256 ^ 6 = pow-le-pow-right (lit< tt) h in
+    let e : 8 * taken ≤ 48 = omega arith in
+    let l : 2 ^ (8 * taken) ≤ 2 ^ 48 = pow-le-pow-right (lit< tt) e in
     omega (arith, t .small)
 
 -- ---- six bytes in a row
@@ -116,44 +113,29 @@ module _ (inner : List ℕ) (byte : (i : ℕ) → getD inner i 0 < 256) where
       record { two = t .value; four = rw (← (t .rest)) (f .value); small = t .small; rest = rw n (took-both t f .rest) }
 
 -- bytes that were taken fill six octets, zero behind them
-octets-none : (n : ℕ) → octetsOf n [] ≡ 0
-octets-none zero = refl
-octets-none (suc n) = rw (octets-none n)
-
-octets-small : (n : ℕ) (l : List ℕ) → Below 256 l → octetsOf n l < 256 ^ n
-octets-small zero l b = lit< tt
-octets-small (suc n) l b = rw (pow-suc 256 n) (omega (arith, octets-small n l b, below-getD 256 l n (lit< tt) b))
-
-filled : (count : ℕ) {l after : List ℕ} {x : ℕ} → count ≡ min 6 (length l) → Took count l x after → (x * 256 ^ (6 - count) ≡ octetsOf 6 l) × (after ≡ drop 6 l)
+filled : (count : ℕ) {l after : List ℕ} {x : ℕ} → count ≡ min 6 (length l) → Took count l x after → (x * 2 ^ (8 * (6 - count)) ≡ val 6 l) × (after ≡ drop 6 l)
 filled count {l} {after} {x} e t = go (side (length l) 6)
   where
-    go : Side (length l) 6 → (x * 256 ^ (6 - count) ≡ octetsOf 6 l) × (after ≡ drop 6 l)
+    go : Side (length l) 6 → (x * 2 ^ (8 * (6 - count)) ≡ val 6 l) × (after ≡ drop 6 l)
     go (under h y) =
         let c : count ≡ length l = omega arith in
         let d : drop count l ≡ [] = drop-of-length-le l {i = count} (omega arith) in
         let f : drop 6 l ≡ [] = drop-of-length-le l {i = 6} (omega arith) in
         let s : count + (6 - count) ≡ 6 = omega arith in
-        (rw (t .value) (sym (rw (s, d, octets-none, add-zero) at (octets-add count (6 - count) l))), t .rest ∙ d ∙ sym f)
+        (rw (t .value) (sym (rw s at (val-pad count (6 - count) l (omega arith)))), t .rest ∙ d ∙ sym f)
     go (over h y) =
         let c : count ≡ 6 = omega arith in
         rw (t .value, t .rest, c) (omega arith, refl)
-
-octet-shift : (n : ℕ) → 2 ^ (8 * n) ≡ 256 ^ n
-octet-shift zero = refl
-octet-shift (suc n) =
-    let e : 8 * suc n ≡ 8 * n + 8 = omega arith in
-    rw (e, pow-add 2 (8 * n) 8, octet-shift n, pow-suc 256 n)
 
 -- shifted up and cut in two words
 pub took-six : (count : ℕ) {l after : List ℕ} {x high low : ℕ} → Below 256 l → count ≡ min 6 (length l) → Took count l x after
     → Filled count x high low → TookSix l high low after
 took-six count {l} {after} {x} {high} {low} b e t c =
     let f = filled count e t in
-    let p : 2 ^ (8 * (6 - count)) ≡ 256 ^ (6 - count) = octet-shift (6 - count) in
-    let s : x * 2 ^ (8 * (6 - count)) ≡ octetsOf 2 l * 4294967296 + octetsOf 4 (drop 2 l) = rw p (f .0 ∙ octets-add 2 4 l) in
-    let h : octetsOf 2 l < 65536 = octets-small 2 l b in
-    let k : octetsOf 4 (drop 2 l) < 4294967296 = octets-small 4 (drop 2 l) (below-drop 256 2 l b) in
-    let y : high ≡ octetsOf 2 l = rw s at (c .cut-high) ∙ omega arith in
+    let s : x * 2 ^ (8 * (6 - count)) ≡ val 2 l * 4294967296 + val 4 (drop 2 l) = f .0 ∙ val-split 2 4 l in
+    let h : val 2 l < 65536 = val-fits 2 l b in
+    let k : val 4 (drop 2 l) < 4294967296 = val-fits 4 (drop 2 l) (below-drop 256 2 l b) in
+    let y : high ≡ val 2 l = rw s at (c .cut-high) ∙ omega arith in
     record { two = y; four = rw s at (c .cut-low) ∙ omega arith; small = omega arith; rest = f .1 }
 
 pub onward-below : (inner : List ℕ) (at : ℕ) → ((i : ℕ) → getD inner i 0 < 256) → Below 256 (onward inner at)

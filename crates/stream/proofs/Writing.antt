@@ -12,7 +12,9 @@ use Rattle.ump.specs.Packing.{statusFor, packetsFor, pack}
 use Rattle.ump.proofs.Packing.{length-pack}
 use Rattle.ump.proofs.Sizes.{packets-are, place-begin, status-inner}
 use Rattle.ump.proofs.Positions.{getD-pack, word-head7, word-body}
-use Rattle.stream.specs.Steps.{octetsOf, headWord, TookSix}
+use Rattle.flow.specs.Digits.{val}
+use Rattle.flow.proofs.Digits.{val-two, val-four}
+use Rattle.stream.specs.Steps.{headWord, TookSix}
 
 -- one list up to k, and another from there
 abbrev seam : ℕ → List ℕ → List ℕ → List ℕ
@@ -42,19 +44,19 @@ length-packed group bs = length-pack sysex7 group [] bs refl
 -- the two words of packet p
 module _ (group : ℕ) (bs : List ℕ) (p : ℕ) (h : p < packets bs) where
   first-word : getD (packed group bs) (2 * p) 0
-      ≡ headWord group (statusFor (packets bs) p) (min 6 (length bs - 6 * p)) + octetsOf 2 (drop (6 * p) bs)
+      ≡ headWord group (statusFor (packets bs) p) (min 6 (length bs - 6 * p)) + val 2 (drop (6 * p) bs)
   first-word =
       let d : 2 * p / 2 ≡ p = omega arith in
       getD-pack sysex7 group [] bs refl (2 * p) (omega arith)
       ∙ word-head7 group (length bs) (λ i. getD bs i 0) (2 * p) (omega arith)
-      ∙ rw (d, getD-drop (6 * p) bs 0 0, getD-drop (6 * p) bs 1 0, add-zero (6 * p)) (omega arith)
+      ∙ rw (d, val-two, getD-drop (6 * p) bs 0 0, getD-drop (6 * p) bs 1 0, add-zero (6 * p)) (omega arith)
 
-  second-word : getD (packed group bs) (2 * p + 1) 0 ≡ octetsOf 4 (drop 2 (drop (6 * p) bs))
+  second-word : getD (packed group bs) (2 * p + 1) 0 ≡ val 4 (drop 2 (drop (6 * p) bs))
   second-word =
       let i : ℕ = 6 * p + 2 in
       getD-pack sysex7 group [] bs refl (2 * p + 1) (omega arith)
       ∙ word-body sysex7 group [] (length bs) (λ i. getD bs i 0) (2 * p + 1) i (omega arith) (omega arith)
-      ∙ rw (drop-drop 2 (6 * p) bs, getD-drop i bs 0 0, getD-drop i bs 1 0, getD-drop i bs 2 0, getD-drop i bs 3 0, add-zero i) (omega arith)
+      ∙ rw (val-four, drop-drop 2 (6 * p) bs, getD-drop i bs 0 0, getD-drop i bs 1 0, getD-drop i bs 2 0, getD-drop i bs 3 0, add-zero i) (omega arith)
 
 -- the head of a packet that is not the last
 abbrev pub Led : ℕ → ℕ → ℕ → ℕ → Type 0

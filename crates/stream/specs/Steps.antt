@@ -3,13 +3,14 @@
 use mathlib.Core.Path.{_≡_}
 use mathlib.Core.Bool.{cond}
 use mathlib.Core.List.{List, [], _∷_, _++_}
-use Prim.Native.Nat.{ℕ, zero, suc, _+_, _-_, _*_, _/_, _%_, _^_, _<_}
+use Prim.Native.Nat.{ℕ, suc, _+_, _-_, _*_, _/_, _%_, _^_, _<_}
 use lib.Dec.{ltb}
-use lib.ListN.{length, getD, drop}
+use lib.ListN.{length, drop}
 use Rattle.ump.specs.Word.{pairAt}
 use Rattle.ump.specs.Packet.{sysex7}
 use Rattle.ump.specs.Packing.{packetsFor, pack}
 use Rattle.ump.specs.Stream.{withoutRealTime}
+use Rattle.flow.specs.Digits.{val}
 
 -- the data that stands from a position on
 abbrev pub onward : List ℕ → ℕ → List ℕ
@@ -20,25 +21,20 @@ abbrev pub countBelow : ℕ → List ℕ → ℕ
 countBelow limit [] = 0
 countBelow limit (byte ∷ bytes) = cond (ltb byte limit) (suc (countBelow limit bytes)) (countBelow limit bytes)
 
--- the first n bytes as octets of a number, zero where there is none
-abbrev pub octetsOf : ℕ → List ℕ → ℕ
-octetsOf zero bytes = 0
-octetsOf (suc n) bytes = octetsOf n bytes * 256 + getD bytes n 0
-
 -- four bytes that stand at a position, as octets (two: pairAt)
 abbrev pub fourAt : List ℕ → ℕ → ℕ
 fourAt inner at = pairAt inner at * 65536 + pairAt inner (at + 2)
 
 -- n bytes were taken
 pub record Took (n : ℕ) (before : List ℕ) (octets : ℕ) (after : List ℕ) : Type 0 where
-  pub value : octets ≡ octetsOf n before
-  pub small : octets < 256 ^ n
+  pub value : octets ≡ val n before
+  pub small : octets < 2 ^ (8 * n)
   pub rest : after ≡ drop n before
 
 -- six bytes were taken, two and then four
 pub record TookSix (before : List ℕ) (high low : ℕ) (after : List ℕ) : Type 0 where
-  pub two : high ≡ octetsOf 2 before
-  pub four : low ≡ octetsOf 4 (drop 2 before)
+  pub two : high ≡ val 2 before
+  pub four : low ≡ val 4 (drop 2 before)
   pub small : high < 65536
   pub rest : after ≡ drop 6 before
 

@@ -19,7 +19,7 @@ within c = taking-within (c .before .loop .inv) (c .loop-test .taken) (c .before
 
 small : (c : tie.Then1 Inv-loop μ-loop)
     → let l = c .before .before .before in
-    l .loop .octets * 256 + getD (l .before .args .inner .now) (l .loop .next) 0 < 256 ^ 6
+    l .loop .octets * 256 + getD (l .before .args .inner .now) (l .loop .next) 0 < 2 ^ 48
 small c =
     let i = c .before .before in
     let t = taking-data (i .before .loop .inv) (i .loop-test .taken) (within i) (c .if1 .taken) in

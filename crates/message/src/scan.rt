@@ -5,7 +5,8 @@ ghost use Prim.Native.Nat.{_/_, _<_};
 ghost use Rattle.ump.specs.Packet.{Shape};
 ghost use Rattle.ump.specs.Check.{firstWhere, statusNumber, check, checkPackets};
 ghost use Rattle.refusal.specs.Number.{numberOf};
-ghost use Rattle.message.specs.Scan.{Inside, Packets, otherAt, outOfStep, countOut, faulty, one, Shaped, formOf, shapeOf, inOrder, Explains};
+ghost use Rattle.message.specs.Scan.{Inside, Packets, otherAt, outOfStep, countOut, faulty, one};
+ghost use Rattle.message.specs.Scan.{Shaped, formOf, shapeOf, inOrder, Explains};
 use refusal::Fault;
 use refusal::Refusal;
 

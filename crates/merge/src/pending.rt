@@ -2,13 +2,16 @@
 ghost use mathlib.Core.Path.{_≡_};
 ghost use Prim.Native.Nat.{_+_, _-_, _*_, _/_, _^_, _≤_, _<_};
 ghost use lib.ListN.{length};
-ghost use Rattle.merge.specs.Thirteens.{number};
+ghost use Rattle.ump.specs.Packet.{sysex8, countAt, sizeAt};
+ghost use Rattle.flow.specs.Digits.{val};
+ghost use Rattle.merge.specs.Thirteens.{number, body, frontOf};
 ghost use Rattle.merge.specs.Pieces.{Appends, Flushed, Goes, Given, Kept, Reaches, Runs, none, taken};
 use super::numbers::least;
 use super::numbers::most;
 use super::numbers::over;
 use super::thirteen::Thirteen;
 use super::thirteen::earlier;
+use super::thirteen::front;
 use super::thirteen::front_of;
 use super::thirteen::later;
 use super::thirteen::load;
@@ -37,7 +40,7 @@ pub fn nothing(packet: usize) -> Pending
 }
 
 // A piece of some bytes, up to 13, with zeros behind them, after what is pending; 13 are written.
-pub fn append(
+pub(crate) fn append(
     words: &mut [u32],
     head: u32,
     pending: Pending,
@@ -87,6 +90,26 @@ pub fn flush(words: &mut [u32], head: u32, pending: Pending, packets: usize)
     if packet < packets {
         store(words, packet, head, pending.high, pending.low);
     }
+}
+
+// The payload bytes of packet `packet`, after what is pending.
+pub fn take_packet(words: &mut [u32], head: u32, pending: Pending, packet: usize) -> Pending
+    requires { ⌜ (pending .packet ≤ packet) × ((4 * packet + 4 ≤ length (now words)) × Reaches (length (now words)) head pending 0) ⌝ }
+    requires { ⌜ (0 < countAt sysex8 (now words) packet) × (countAt sysex8 (now words) packet ≤ 14) ⌝ }
+    ensures { λ r. ⌜ Appends (now (words .entry)) (now (words .exit)) head pending
+        (frontOf (val 13 (body (now (words .entry)) packet)) (sizeAt sysex8 (now (words .entry)) packet))
+        (sizeAt sysex8 (now (words .entry)) packet) r ⌝ }
+{
+    let at = 4 * packet;
+    let some = layout::count_of(words[at]) as usize - 1;
+    if some == 0 {
+        return pending;
+    }
+    let bytes = load(words, packet);
+    if some == 13 {
+        return append(words, head, pending, bytes, 13);
+    }
+    append(words, head, pending, front(bytes, some), some)
 }
 
 // Lent bytes `from..to`, after what is pending.

@@ -29,7 +29,7 @@ fn wide_byte(byte: u8) -> u64
 }
 
 // The payload octets of packet `packet`.
-pub fn load(words: &[u32], packet: usize) -> Thirteen
+pub(crate) fn load(words: &[u32], packet: usize) -> Thirteen
     requires { ⌜ (packet < 65536) × (4 * packet + 4 ≤ length (now words)) ⌝ }
     ensures { λ r. ⌜ (number r ≡ val 13 (body (now (words .entry)) packet)) × (r .high < 2 ^ 40) ⌝ }
 {
@@ -90,7 +90,7 @@ pub(crate) fn earlier(t: Thirteen, some: usize) -> Thirteen
 }
 
 // The first bytes, 0 to 12, and zeros.
-pub fn front(t: Thirteen, some: usize) -> Thirteen
+pub(crate) fn front(t: Thirteen, some: usize) -> Thirteen
     requires { ⌜ (some < 13) × (t .high < 2 ^ 40) ⌝ }
     ensures { λ r. ⌜ (number r ≡ frontOf (number t) some) × (r .high < 2 ^ 40) ⌝ }
 {

@@ -1,28 +1,22 @@
 // The fewest-packet form.
 ghost use mathlib.Core.Path.{_≡_};
-ghost use Prim.Native.Nat.{_+_, _*_, _^_, _≤_, _<_};
+ghost use Prim.Native.Nat.{_≤_};
 ghost use lib.ListN.{length};
-ghost use Rattle.ump.specs.Packet.{sysex8, countAt, sizeAt};
+ghost use Rattle.ump.specs.Packet.{sysex8};
 ghost use Rattle.ump.specs.Packing.{wordsFor};
 ghost use Rattle.ump.specs.Check.{payloadOf};
 ghost use Rattle.ump.specs.Splice.{rewritten};
-ghost use Rattle.flow.specs.Digits.{val};
 ghost use Rattle.splice.specs.Accepted.{Accepted};
 ghost use Rattle.splice.specs.Header.{finished};
 ghost use Rattle.splice.specs.Zeros.{zeroed};
-ghost use Rattle.merge.specs.Thirteens.{body, frontOf};
-ghost use Rattle.merge.specs.Pieces.{Reaches, Appends};
 use super::header::base_of;
 use super::header::head;
 use super::header::inner_head;
 use super::header::put_head;
 use merge::numbers::words_needed;
-use merge::pending::Pending;
-use merge::pending::append;
 use merge::pending::flush;
 use merge::pending::nothing;
-use merge::thirteen::front;
-use merge::thirteen::load;
+use merge::pending::take_packet;
 
 // Zeroes the words from `from` up to `to`.
 pub(crate) fn zero(words: &mut [u32], from: usize, to: usize)
@@ -34,26 +28,6 @@ pub(crate) fn zero(words: &mut [u32], from: usize, to: usize)
         words[index] = 0;
         index += 1;
     }
-}
-
-// The payload bytes of packet `packet`, after what is pending.
-fn take_packet(words: &mut [u32], head: u32, pending: Pending, packet: usize) -> Pending
-    requires { ⌜ (pending .packet ≤ packet) × ((4 * packet + 4 ≤ length (now words)) × Reaches (length (now words)) head pending 0) ⌝ }
-    requires { ⌜ (0 < countAt sysex8 (now words) packet) × (countAt sysex8 (now words) packet ≤ 14) ⌝ }
-    ensures { λ r. ⌜ Appends (now (words .entry)) (now (words .exit)) head pending
-        (frontOf (val 13 (body (now (words .entry)) packet)) (sizeAt sysex8 (now (words .entry)) packet))
-        (sizeAt sysex8 (now (words .entry)) packet) r ⌝ }
-{
-    let at = 4 * packet;
-    let some = layout::count_of(words[at]) as usize - 1;
-    if some == 0 {
-        return pending;
-    }
-    let bytes = load(words, packet);
-    if some == 13 {
-        return append(words, head, pending, bytes, 13);
-    }
-    append(words, head, pending, front(bytes, some), some)
 }
 
 // Makes the first words of the first and the last packet of a message of `size` bytes in `end` words anew, each with its byte, and zeroes

@@ -6,10 +6,10 @@ use native.Mathlib.Omega.{arith}
 use borrow.Author.Needs.{needs}
 use Rattle.ump.specs.Packet.{sysex8, sizeAt, countAt}
 use Rattle.ump.proofs.Sizes.{size-of-count}
 use Rattle.merge.proofs.Bodies.{body-fits}
 use Rattle.merge.proofs.Parts.{front-zero, front-all}
-use Rattle.splice.proofs.packing.take_packet.Statement.{statement}
-use Rattle.splice.proofs.packing.take_packet.Tie as tie
+use Rattle.merge.proofs.pending.take_packet.Statement.{statement}
+use Rattle.merge.proofs.pending.take_packet.Tie as tie
 
 -- how many bytes the packet carries
 some-is : (c : tie.After-count-of) → let x = c .before .before .before .args in c .count-of .result - 1 ≡ sizeAt sysex8 (x .words .now) (x .packet)

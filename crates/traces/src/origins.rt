@@ -93,6 +93,20 @@ fn write_rows(
     }
 }
 
+// The rows of the octets from `first` on, written to this room, are the table's.
+fn agrees_in(
+    words: &[u32],
+    length: usize,
+    numbers: &[usize],
+    bytes: &[u8],
+    first: u16,
+    table: &[u8],
+    rows: &mut [u8],
+) -> bool {
+    write_rows(words, length, numbers, bytes, first, rows);
+    check::same(rows, table)
+}
+
 // The octets from `first` on come from where the table says.
 fn agrees(
     words: &[u32],
@@ -107,8 +121,15 @@ fn agrees(
         return false;
     }
     let mut rows = [0u8; MOST];
-    write_rows(words, length, numbers, bytes, first, &mut rows[..size]);
-    check::same(&rows[..size], table)
+    agrees_in(
+        words,
+        length,
+        numbers,
+        bytes,
+        first,
+        table,
+        &mut rows[..size],
+    )
 }
 
 // The octets from `first` on, of P2's message with 10..1C put in at 1, in these words.

@@ -72,6 +72,9 @@ fn count_few(bytes: &[u8], limit: u8) -> u8
 fn count_below(bytes: &[u8], limit: u8) -> usize
     ensures { λ r. ⌜ r ≡ countBelow limit (now (bytes .entry)) ⌝ }
 {
+    if bytes.len() < 192 {
+        return count_few(bytes, limit) as usize;
+    }
     let mut number = 0;
     let mut at = 0;
     while bytes.len() - at > 192 {

@@ -1,4 +1,4 @@
--- `stream::count_below`: part after part, and the rest. Assumes nothing.
+-- `stream::count_below`: few at once; else part after part, and the rest. Assumes nothing.
 use borrow.Author.Needs.{needs}
 use mathlib.Core.Path.{_≡_}
 use Prim.Native.Nat.{_+_, _-_}
@@ -18,16 +18,16 @@ loop-again : tie.Need-loop-again Inv-loop μ-loop
 loop-again c =
     let l = c .before .before .before in
     let e : l .loop .at + 192 - l .loop .at ≡ 192 = omega arith in
-    rw (c .count-few .ensures, e) (counted-more (l .loop .inv) 192 (omega arith))
+    rw (c .count-few2 .ensures, e) (counted-more (l .loop .inv) 192 (omega arith))
 
 -- what is left is counted by itself
-rest : (c : tie.After-count-few2 Inv-loop μ-loop) → let l = c .before .before .before in
-    Counted (l .before .before .args .bytes .now) (l .before .before .args .limit) (length (l .before .before .args .bytes .now)) (l .loop .number + c .count-few2 .result)
+rest : (c : tie.After-count-few3 Inv-loop μ-loop) → let l = c .before .before .before in
+    Counted (l .before .before .before .args .bytes .now) (l .before .before .before .args .limit) (length (l .before .before .before .args .bytes .now)) (l .loop .number + c .count-few3 .result)
 rest c =
     let l = c .before .before .before in
-    let n = length (l .before .before .args .bytes .now) - l .loop .at in
-    let e : l .loop .at + n ≡ length (l .before .before .args .bytes .now) = omega (arith, l .loop .inv .within) in
-    rw (c .count-few2 .ensures) (rw e at (counted-more (l .loop .inv) n (omega arith)))
+    let n = length (l .before .before .before .args .bytes .now) - l .loop .at in
+    let e : l .loop .at + n ≡ length (l .before .before .before .args .bytes .now) = omega (arith, l .loop .inv .within) in
+    rw (c .count-few3 .ensures) (rw e at (counted-more (l .loop .inv) n (omega arith)))
 
 pub count-below-spec : {M : Type 1} → statement M
 count-below-spec =
@@ -35,13 +35,16 @@ count-below-spec =
     (tie.spec
     Inv-loop
     μ-loop
+    (λ c κs. search needs)
+    (λ c. search needs)
+    (λ c. search needs)
     (λ c. counted-none)
     (λ c. omega (arith, c .loop .inv .within))
     (λ c. search needs)
     (λ c. search needs)
     (λ c. search needs)
     (λ c. search needs)
-    (λ c κs. let l = c .before .before in omega (arith, length-take (l .loop .at + 192 - l .loop .at) (drop (l .loop .at) (l .before .before .args .bytes .now))))
+    (λ c κs. let l = c .before .before in omega (arith, length-take (l .loop .at + 192 - l .loop .at) (drop (l .loop .at) (l .before .before .before .args .bytes .now))))
     (λ c. search needs)
     (λ c. omega (arith, counted-most (loop-again c)))
     (λ c. search needs)
@@ -49,7 +52,7 @@ count-below-spec =
     (λ c. search needs)
     (λ c. search needs)
     (λ c. search needs)
-    (λ c κs. let l = c .before .before in let s = l .before .before .args .bytes .now in omega (arith, length-take (length s - l .loop .at) (drop (l .loop .at) s)))
+    (λ c κs. let l = c .before .before in let s = l .before .before .before .args .bytes .now in omega (arith, length-take (length s - l .loop .at) (drop (l .loop .at) s)))
     (λ c. search needs)
     (λ c. omega (arith, counted-most (rest c)))
     (λ c. counted-all (rest c) (omega arith)))

@@ -50,7 +50,7 @@ fn fault(refusal: Refusal) -> Fault
     Fault { refusal, place: 0 }
 }
 
-// Whether an edit is reversed, or a number within it is above 53,248.
+// Whether an edit is reversed, or a number within it is above the most bytes.
 fn is_bad(edit: Edit) -> bool
     ensures { λ r. ⌜ r ≡ badEdit (editMeaning edit) ⌝ }
 {
@@ -79,7 +79,7 @@ fn moved_past(done: Edit, place: usize) -> usize
     (place as i64 + growth_of(done)) as usize
 }
 
-// The growth of an edit; Range for one that is reversed or has a number above 53,248.
+// The growth of an edit; Range for one that is reversed or has a number above the most bytes.
 pub fn growth(edit: Edit) -> Grown
     ensures { λ r. ⌜ grownMeaning r ≡ growthOf (editMeaning edit) ⌝ }
 {

@@ -2,9 +2,9 @@
 // standard output, four bytes each, highest first; or the line `refused NO at PLACE`, as sx8list prints it.
 //
 // A store of more than 1,048,576 bytes is refused as Long, `refused 1 at 0`, as sx8list refuses an input over its limit; nothing else is
-// Long here, since as many words are lent as a message may have. The argument is 1 to 64 decimal digits, and a number above 65,535 is one that no dump has:
-// Missing, `refused 24 at 0`. No argument, two, or one that is no such number: nothing is read or written, and a line on standard error
-// says how the program is called. A program of Rattle always ends with status 0.
+// Long here, since as many words are lent as a message may have. The argument is 1 to 64 decimal digits, and a number above 65,535 is
+// one that no dump has: Missing, `refused 24 at 0`. No argument, two, or one that is no such number: nothing is read or written, and a
+// line on standard error says how the program is called. A program of Rattle always ends with status 0.
 mod argument;
 pub mod output;
 

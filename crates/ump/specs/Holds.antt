@@ -27,7 +27,7 @@ pub record Fewest (shape : Shape) (group : ℕ) (id bytes : List ℕ) (lent : �
   pub packed : take len words ≡ pack shape group id bytes
   pub holds : Holds shape group id bytes lent words len
 
--- These words are now `left`, with a message of `new` words; the longest that stood there had `most`. BehindMessage it stand zeros as far as that
+-- These words are now `left`, with a message of `new` words; the longest that stood there had `most`. Behind it stand zeros as far as that
 -- reached, else the words as they were.
 pub record BehindMessage (words : List ℕ) (most : ℕ) (left : List ℕ) (new : ℕ) : Type 0 where
   pub word : (i : ℕ) → new ≤ i → getD left i 0 ≡ cond (ltb i most) 0 (getD words i 0)

@@ -137,7 +137,7 @@ module _ {Lent Record : Type 0} {shape : Shape} (dense : Dense shape) {view : Vi
   places order o {end} w =
       placed shape view calls group id payload (length words) patches (fits .apart) (fits .bytes) (fits .room) small meets order [] held end (at-first order o) w
 
-  -- 5. BehindMessage the message each word is zero where one stood on the way, else it is as it was.
+  -- 5. Behind the message each word is zero where one stood on the way, else it is as it was.
   pub words-behind : (order : List ℕ) → Order (length patches) order → {left : Lent} {size : ℕ} → (w : Works calls (bytesOf patches) held order (finished left size))
       → BehindMessage words (reached w) (view .wordsOf left) size
   words-behind order o {left} {size} w =

@@ -25,7 +25,7 @@ piece payload patches done i = gap payload patches i ++ current payload patches 
 unfoldable pub mixed : List ℕ → List Patch → List ℕ → List ℕ
 mixed payload patches done = joined (piece payload patches done) (length patches) ++ drop (endBefore patches (length patches)) payload
 
--- ---- the ranges (ump/proofs/Signed: each is the old one plus the signed growth)
+-- ---- the ranges: each is the old one plus the growth of those before it that are done
 
 -- bytes put in, and bytes taken out, by those of the patches 0 .. i - 1 that are done
 abbrev pub added : List Patch → List ℕ → ℕ → ℕ

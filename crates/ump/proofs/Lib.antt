@@ -38,4 +38,5 @@ pub mod Demand
 pub mod Demand3
 pub mod Orders
 pub mod Numbered
+pub mod Withdrawn
 pub mod Asking

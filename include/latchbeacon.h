@@ -26,9 +26,9 @@
 #include <stdint.h>
 
 /* The version of this header and of the library that it belongs to. */
-#define LATCHBEACON_VERSION "0.1.0"
+#define LATCHBEACON_VERSION "0.2.0"
 #define LATCHBEACON_VERSION_MAJOR 0
-#define LATCHBEACON_VERSION_MINOR 1
+#define LATCHBEACON_VERSION_MINOR 2
 #define LATCHBEACON_VERSION_PATCH 0
 
 /* The most words that a message may be lent in, and the most payload bytes that a SysEx8 message has in so many: more never fit. */
@@ -50,7 +50,7 @@ extern "C" {
 #endif
 
 /* 0 for a call that is accepted; else why it refuses. The place is the word index of the first packet at fault for 5 to 12, the index
- * of the first such byte for 18, else 0. */
+ * of the first such byte for 18, else 0. No refusal has the number 19, and none will: it was taken out, as no input was ever given it. */
 enum latchbeacon_refusal {
     LATCHBEACON_ACCEPTED = 0,  /* the call is accepted */
     LATCHBEACON_LONG = 1,      /* more than LATCHBEACON_MOST_WORDS words lent */
@@ -72,7 +72,6 @@ enum latchbeacon_refusal {
     LATCHBEACON_FIELD = 16,    /* field index, or value for a field, too big */
     LATCHBEACON_FRAME = 17,    /* stream under 2 bytes, first not F0 or last not F7 */
     LATCHBEACON_BYTE = 18,     /* a byte of 80 to F7 hex between them */
-    LATCHBEACON_SPREAD = 19,   /* packing would need more words than the message has */
     LATCHBEACON_OVERLAP = 20,  /* edits not in the stated order */
     LATCHBEACON_FORMAT = 21,   /* store: unknown kind, short body, misplaced record, group above 15, or an edit's from below the to of
                                   the edit before it */
@@ -269,8 +268,8 @@ latchbeacon_number latchbeacon_sysex8_set_byte(uint32_t *words, size_t words_len
  * answered with the exact number too. */
 size_t latchbeacon_sysex8_words_needed(size_t size);
 
-/* Rewrites the message in fewest-packet form and answers its new length in words. Refusals: the check's, then 19 and 14, which no
- * message calls for. */
+/* Rewrites the message in fewest-packet form and answers its new length in words. Refusals: the check's alone, as no message needs more
+ * words than it has. */
 latchbeacon_number latchbeacon_sysex8_repack(uint32_t *words, size_t words_lent, size_t length);
 
 /* Replaces the payload bytes from..to by `replacement` and writes the fewest-packet form. Refusals: the check's, then 13, 14. */

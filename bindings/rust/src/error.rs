@@ -4,7 +4,7 @@ use std::fmt;
 
 /// Why a call refuses: the refusals of the library by name.
 ///
-/// Refusals that are added later have numbers from 26.
+/// Refusals that are added later have numbers from 26. None has 19, and none will: it was taken out, as no input was ever given it.
 ///
 /// ```
 /// use latchbeacon::Refusal;
@@ -12,6 +12,7 @@ use std::fmt;
 /// assert_eq!(Refusal::Range.number(), 13);
 /// assert_eq!(Refusal::Range.name(), "Range");
 /// assert_eq!(Refusal::from_number(13), Refusal::Range);
+/// assert_eq!(Refusal::from_number(19), Refusal::Unknown(19));
 /// ```
 #[derive(Clone, Copy, Debug, PartialEq, Eq, Hash)]
 #[non_exhaustive]
@@ -53,8 +54,6 @@ pub enum Refusal {
     Frame,
     /// 18: a byte of 80 to F7 hex between them.
     Byte,
-    /// 19: packing would need more words than the message has. No message calls for it.
-    Spread,
     /// 20: edits not in the stated order.
     Overlap,
     /// 21: of a store: unknown kind, short body, misplaced record, group above 15, or an edit's from below the to of the edit before
@@ -73,7 +72,7 @@ pub enum Refusal {
 }
 
 // Numbers, names and meanings, in the order of the numbers.
-const TABLE: [(u8, Refusal, &str, &str); 25] = [
+const TABLE: [(u8, Refusal, &str, &str); 24] = [
     (1, Refusal::Long, "Long", "more than 16,384 words lent"),
     (2, Refusal::Length, "Length", "message length above the words lent"),
     (3, Refusal::Short, "Short", "under 4 words (SysEx7: 2)"),
@@ -98,7 +97,6 @@ const TABLE: [(u8, Refusal, &str, &str); 25] = [
     (16, Refusal::Field, "Field", "field index, or value for a field, too big"),
     (17, Refusal::Frame, "Frame", "stream under 2 bytes, first not F0 or last not F7"),
     (18, Refusal::Byte, "Byte", "a byte of 80 to F7 hex between F0 and F7"),
-    (19, Refusal::Spread, "Spread", "packing would need more words than the message has"),
     (20, Refusal::Overlap, "Overlap", "edits not in the stated order"),
     (
         21,

@@ -297,6 +297,17 @@ fn refusals_are_those_of_the_header() {
     }
 }
 
+// No refusal has a number that was taken out, in the header or in the bindings: 19 is not used again.
+#[test]
+fn numbers_taken_out_are_not_used_again() {
+    let header = read_header(HEADER, "latchbeacon_refusal").1;
+    let bindings = Refusal::all().map(|refusal| refusal.number());
+    let numbers: Vec<u8> = header.into_iter().map(|(_, number)| number).chain(bindings).collect();
+    assert!(numbers.contains(&18) && numbers.contains(&20));
+    assert!(!numbers.contains(&19));
+    assert_eq!(Refusal::from_number(19), Refusal::Unknown(19));
+}
+
 // What a macro of a header stands for.
 fn macro_of<'a>(header: &'a str, name: &str) -> &'a str {
     let define = format!("#define {name} ");

@@ -9,10 +9,9 @@ use lib.Dec.{ltb}
 use lib.ListN.{length}
 use borrow.Author.Tests.{ltb-false}
 use Rattle.refusal.specs.Answer.{Answer, gives, refused, _▷_, guard}
-use Rattle.refusal.proofs.Laws.{never-refused, given-passes}
+use Rattle.refusal.proofs.Laws.{never-refused, given-passes, guard-passed}
 use Rattle.ump.specs.Word.{Below}
 use Rattle.ump.specs.Edits.{Patch, patchAt, endBefore, Apart, replaced}
-use Rattle.ump.proofs.Done.{guard-passed}
 use Rattle.ump.proofs.Replace.{endFrom, end-before, end-next}
 use Rattle.ump.proofs.Origins.{below-replaced}
 use Rattle.store.specs.Store.{Dump, whole, delta, held}

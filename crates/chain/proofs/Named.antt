@@ -6,8 +6,9 @@ use Prim.Native.Nat.{ℕ, zero, suc}
 use lib.Dec.{ltb}
 use lib.ListN.{length}
 use Rattle.refusal.specs.Answer.{Answer, gives, refused, mapAnswer}
+use Rattle.refusal.specs.Number.{Named, accepted, named}
 use Rattle.refusal.specs.declared.Refusal.the-variants.{Long, Range, Room, Missing, Ring}
-use Rattle.refusal.proofs.Laws.{Named, accepted, named, by-guard, by-both, writes-named}
+use Rattle.refusal.proofs.Laws.{by-guard, by-both, writes-named}
 use Rattle.ump.specs.Limits.{mostWords}
 use Rattle.ump.specs.Edits.{Patch}
 use Rattle.store.specs.Store.{Dump, whole, delta, dumpsOf, held}

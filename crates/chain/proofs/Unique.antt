@@ -4,9 +4,9 @@ use mathlib.Core.Option.{Option, none, some}
 use Prim.Native.Nat.{ℕ}
 use Rattle.refusal.specs.Answer.{Answer, gives, refused}
 use Rattle.refusal.specs.Tight.{FixesResult}
-use Rattle.refusal.specs.Number.{numberOf}
+use Rattle.refusal.specs.Number.{numberOf, Named, named}
 use Rattle.refusal.specs.declared.Refusal.{Refusal}
-use Rattle.refusal.proofs.Laws.{faultBack, fault-back, name-of-number, Named, named}
+use Rattle.refusal.proofs.Laws.{faultBack, fault-back, name-of-number}
 use Rattle.refusal.proofs.Tight.{once}
 use Rattle.chain.specs.Restore as paper
 use Rattle.chain.specs.Meaning.{basisMeaning, descriptionMeaning, describedMeaning}

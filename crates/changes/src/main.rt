@@ -1,8 +1,10 @@
-// The samples of document 01 that change a message, run through the public calls: a line for each, `ok` or `WRONG`.
+// The samples of document 01 that change a message, and the refusals of the calls that pack one, run through the public calls: a line for
+// each, `ok` or `WRONG`.
 use compare::report;
 
 mod edits;
 mod packings;
+mod refusals;
 
 // Writes a line for each sample.
 fn main() {
@@ -18,4 +20,7 @@ fn main() {
         packings::words_needed(),
     );
     report(b"53,248 and 53,249 bytes", packings::most_bytes());
+    report(b"packing what is packed", packings::packed());
+    refusals::packing();
+    refusals::splicing();
 }

@@ -5,13 +5,13 @@ use equality::words::same_words;
 use splice::sysex8::Repacked;
 use splice::sysex8::Spliced;
 
-// Packing these words as one message answers four words and leaves the words expected.
-fn packs(words: &mut [u32], expected: &[u32]) -> bool {
+// Packing these words as one message answers this length and leaves the words expected.
+fn packs(words: &mut [u32], new: usize, expected: &[u32]) -> bool {
     let repacked = splice::sysex8::repack(words, words.len());
     let Repacked::Words(length) = repacked else {
         return false;
     };
-    if length != 4 {
+    if length != new {
         return false;
     }
     same_words(words, expected)
@@ -20,7 +20,7 @@ fn packs(words: &mut [u32], expected: &[u32]) -> bool {
 // 50110900 0 0 0 50310900 0 0 0 packs to 50010900 0 0 0.
 pub(crate) fn p3() -> bool {
     let mut words = [0x5011_0900u32, 0, 0, 0, 0x5031_0900, 0, 0, 0];
-    packs(&mut words, &[0x5001_0900, 0, 0, 0, 0, 0, 0, 0])
+    packs(&mut words, 4, &[0x5001_0900, 0, 0, 0, 0, 0, 0, 0])
 }
 
 // 501E0001 02030405 06070809 0A0B0C0D 50310000 0 0 0 packs to 500E0001 02030405 06070809 0A0B0C0D.
@@ -37,6 +37,7 @@ pub(crate) fn p4() -> bool {
     ];
     packs(
         &mut words,
+        4,
         &[
             0x500E_0001,
             0x0203_0405,
@@ -55,8 +56,15 @@ pub(crate) fn p5() -> bool {
     let mut words = MESSAGE;
     packs(
         &mut words,
+        4,
         &[0x5104_05A0, 0xA1A2_0000, 0, 0, 0, 0, 0, 0, 0, 0, 0, 0],
     )
+}
+
+// Two full packets of 13 and 13 bytes, in as many words as are needed: packing leaves them.
+pub(crate) fn packed() -> bool {
+    let mut words = [0x511E_0509u32, 9, 9, 9, 0x513E_0509, 9, 9, 9];
+    packs(&mut words, 8, &[0x511E_0509, 9, 9, 9, 0x513E_0509, 9, 9, 9])
 }
 
 // P2 with 10..1C (13 bytes) put in at 1, in these words.

@@ -11,7 +11,7 @@ use lib.ListN.{length, getD, drop, length-drop}
 use lib.Seq.{length-take-le}
 use borrow.Author.Tests.{ltb-false, le-ltb, eq-eqb}
 use Rattle.refusal.specs.Answer.{gives, refused, pass, _▷_, guard}
-use Rattle.refusal.proofs.Laws.{writes-given, writes-refused}
+use Rattle.refusal.proofs.Laws.{writes-given, writes-refused, guard-passed}
 use Rattle.ump.specs.Word.{octets, Below}
 use Rattle.ump.specs.Packet.{Shape, groupAt, idAt}
 use Rattle.ump.specs.Packing.{wordsFor}
@@ -28,7 +28,6 @@ use Rattle.ump.proofs.Sizes.{words-mono}
 use Rattle.ump.proofs.Checks.{pass-both}
 use Rattle.ump.proofs.Splicing.{below-payload}
 use Rattle.ump.proofs.Counting.{total-front}
-use Rattle.ump.proofs.Done.{guard-passed}
 use Rattle.ump.proofs.Demand.{never-more-bytes, same-message, rewritten-is-fewest}
 use Rattle.ump.proofs.Origins.{octet-front, below-replaced, rewritten-traced}
 use Rattle.ump.proofs.Asking.{asked-refused, asked-lent, Given, asked-given}

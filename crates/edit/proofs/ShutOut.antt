@@ -136,7 +136,7 @@ record Accepts (x : answer.Spliced) : Type 0 where
   is : x ≡ answer.the-variants.Done change
 
 abbrev refuses : Wrong
-refuses κs x s = Refuses x
+refuses κs x s = Refuses answer.the-variants.Refused x
 
 abbrev accepts : Wrong
 accepts κs x s = Accepts x

@@ -4,8 +4,8 @@ use mathlib.Core.Option.{Option, none, some}
 use mathlib.Core.List.{List, []}
 use Prim.Native.Nat.{ℕ}
 use Rattle.refusal.specs.Answer.{Answer, gives, refused, Verdict}
+use Rattle.refusal.specs.Number.{Named, named}
 use Rattle.refusal.specs.Tight.{lent}
-use Rattle.ump.proofs.Numbered.{Numbered, numbered, from-named}
 use Rattle.store.specs.Store.{checkStore}
 use Rattle.store.proofs.Checks.{check-named}
 use Rattle.chain.specs.Restore.{restore, Description, describe}
@@ -30,9 +30,9 @@ dump-given : (d : Description) (base : Option ℕ) → d .base ≡ base → dump
 dump-given d none e = rw e
 dump-given d (some base) e = rw e
 
-dump-read : (answer : Answer Description) → Numbered answer → dumpRead (dumpAnswer answer) ≡ answer
+dump-read : (answer : Answer Description) → Named answer → dumpRead (dumpAnswer answer) ≡ answer
 dump-read (gives d) h = dump-given d (d .base) refl
-dump-read (refused number place) (numbered h) = read-refused number place _ h
+dump-read (refused number place) (named r) = read-refused r place _
 
 promised : PromisedChain Restores Describes
 promised =
@@ -40,10 +40,10 @@ promised =
       restores = λ {store = store} {n} {words} r.
           let g = r .given in
           read-leaving numberAnswer numberRead (restore store n words) (rw (g .0, g .1, g .2, r .left) at (r .promise)) (r .answer-is)
-          (number-read _ (from-named (restore-named store n words)));
+          (number-read _ (restore-named store n words));
       describes = λ {store = store} {n} d.
           let g = d .given in
-          sym (d .answer-is) ∙ ap dumpRead (rw (g .0, g .1) at (d .promise)) ∙ dump-read (describe store n) (from-named (describe-named store n));
+          sym (d .answer-is) ∙ ap dumpRead (rw (g .0, g .1) at (d .promise)) ∙ dump-read (describe store n) (describe-named store n);
       can-restore = λ {store = store} {n} {words} {answer} {left} e. record {
         lifetimes = ([], ([], tt));
         arguments = (lent store, (n, (lent words, tt)));
@@ -51,7 +51,7 @@ promised =
         exit = (lent store, (n, (lent left, tt)));
         promise = sym (ap (leaving numberAnswer) e);
         given = (refl, refl, refl);
-        answer-is = number-read answer (from-named (rw (ap (λ (o : Answer ℕ × List ℕ). o .0) e) at (restore-named store n words)));
+        answer-is = number-read answer (rw (ap (λ (o : Answer ℕ × List ℕ). o .0) e) at (restore-named store n words));
         left = refl;
       };
       can-describe = λ {store = store} {n} {answer} e. record {
@@ -61,7 +61,7 @@ promised =
         exit = (lent store, (n, tt));
         promise = sym (ap dumpAnswer e);
         given = (refl, refl);
-        answer-is = dump-read answer (from-named (rw e at (describe-named store n)));
+        answer-is = dump-read answer (rw e at (describe-named store n));
         left = tt;
       };
     }
@@ -79,15 +79,15 @@ changed : PromisedStore Checks Restores Describes Marks Collects
 changed =
     record {
       checks = λ {store = store} c.
-          sym (c .answer-is) ∙ ap numberRead (rw (c .given) at (c .promise)) ∙ number-read (checkStore store) (from-named (check-named store));
+          sym (c .answer-is) ∙ ap numberRead (rw (c .given) at (c .promise)) ∙ number-read (checkStore store) (check-named store);
       dumps = promised;
       marks = λ {store = store} {n} m.
           let g = m .given in
           read-leaving doneAnswer doneRead (mark store n) (rw (g .0, g .1, m .left) at (m .promise)) (m .answer-is)
-          (done-read _ (from-named (mark-named store n)));
+          (done-read _ (mark-named store n));
       collects = λ {store = store} c.
           read-leaving numberAnswer numberRead (collect store) (rw (c .given, c .left) at (c .promise)) (c .answer-is)
-          (number-read _ (from-named (collect-named store)));
+          (number-read _ (collect-named store));
       can-check = λ {store = store} {answer} e. record {
         lifetimes = ([], tt);
         arguments = (lent store, tt);
@@ -95,7 +95,7 @@ changed =
         exit = (lent store, tt);
         promise = sym (ap numberAnswer e);
         given = refl;
-        answer-is = number-read answer (from-named (rw e at (check-named store)));
+        answer-is = number-read answer (rw e at (check-named store));
         left = tt;
       };
       can-mark = λ {store = store} {n} {verdict} {left} e. record {
@@ -105,7 +105,7 @@ changed =
         exit = (lent left, (n, tt));
         promise = sym (ap (leaving doneAnswer) e);
         given = (refl, refl);
-        answer-is = done-read verdict (from-named (rw (ap (λ (o : Verdict × List ℕ). o .0) e) at (mark-named store n)));
+        answer-is = done-read verdict (rw (ap (λ (o : Verdict × List ℕ). o .0) e) at (mark-named store n));
         left = refl;
       };
       can-collect = λ {store = store} {answer} {left} e. record {
@@ -115,7 +115,7 @@ changed =
         exit = (lent left, tt);
         promise = sym (ap (leaving numberAnswer) e);
         given = refl;
-        answer-is = number-read answer (from-named (rw (ap (λ (o : Answer ℕ × List ℕ). o .0) e) at (collect-named store)));
+        answer-is = number-read answer (rw (ap (λ (o : Answer ℕ × List ℕ). o .0) e) at (collect-named store));
         left = refl;
       };
     }

@@ -6,7 +6,10 @@ use native.Mathlib.Omega.{arith}
 use lib.Dec.{lit<}
 use borrow.Author.Tests.{ne-eqb}
 use Rattle.refusal.specs.Answer.{Answer, gives, refused, Verdict, mapAnswer}
+use Rattle.refusal.specs.Number.{numberOf, Named, accepted, named}
 use Rattle.refusal.specs.Tight.{lent}
+use Rattle.refusal.specs.declared.Refusal.{Refusal}
+use Rattle.refusal.proofs.Laws.{number-some}
 use Rattle.ump.specs.Packet.{sysex8}
 use Rattle.ump.specs.Splice.{Spliced, splice, repack}
 use Rattle.ump.specs.Edits.{Range, moveEdit, spliceAll}
@@ -16,7 +19,7 @@ use Rattle.ump.specs.Origin.{Origin, headerOctet, carried, dumpByte, editByte, 
 use Rattle.ump.specs.Samples.{message5, patches8}
 use Rattle.ump.specs.Meets.{PlainAnswers, PromisedFamily}
 use Rattle.ump.specs.Orders.{BehindDiffers}
-use Rattle.ump.proofs.Numbered.{Numbered, accepted, numbered, repack-numbered, splice-numbered, all-numbered, origin-numbered, move-numbered}
+use Rattle.ump.proofs.Named.{repack-named, splice-named, all-named, origin-named, move-named}
 use Rattle.ump.proofs.Limits.{dense8}
 use Rattle.ump.proofs.NotEmpty.{fits8}
 use Rattle.ump.proofs.Orders as orders
@@ -27,33 +30,33 @@ use Rattle.latchbeacon.proofs.Worker.{family}
 
 -- ---- reading a struct gives back the answer, as no refusal has the number 0
 
-pub read-refused : {A : Type 0} (number place : ℕ) (value : A) → 0 < number → readAs number place value ≡ refused number place
-read-refused number place value h = rw (ne-eqb number 0 (λ q. omega arith))
+pub read-refused : {A : Type 0} (r : Refusal) (place : ℕ) (value : A) → readAs (numberOf r) place value ≡ refused (numberOf r) place
+read-refused r place value = rw (ne-eqb (numberOf r) 0 (λ q. omega (arith, number-some r)))
 
-pub number-read : (answer : Answer ℕ) → Numbered answer → numberRead (numberAnswer answer) ≡ answer
+pub number-read : (answer : Answer ℕ) → Named answer → numberRead (numberAnswer answer) ≡ answer
 number-read (gives value) h = refl
-number-read (refused number place) (numbered h) = read-refused number place _ h
+number-read (refused number place) (named r) = read-refused r place _
 
-pub done-read : (verdict : Verdict) → Numbered verdict → doneRead (doneAnswer verdict) ≡ verdict
+pub done-read : (verdict : Verdict) → Named verdict → doneRead (doneAnswer verdict) ≡ verdict
 done-read (gives u) h = refl
-done-read (refused number place) (numbered h) = read-refused number place _ h
+done-read (refused number place) (named r) = read-refused r place _
 
-change-read : (answer : Answer Spliced) → Numbered answer → changeRead (changeAnswer answer) ≡ answer
+change-read : (answer : Answer Spliced) → Named answer → changeRead (changeAnswer answer) ≡ answer
 change-read (gives change) h = refl
-change-read (refused number place) (numbered h) = read-refused number place _ h
+change-read (refused number place) (named r) = read-refused r place _
 
-range-read : (answer : Answer Range) → Numbered answer → rangeRead (rangeAnswer answer) ≡ answer
+range-read : (answer : Answer Range) → Named answer → rangeRead (rangeAnswer answer) ≡ answer
 range-read (gives range) h = refl
-range-read (refused number place) (numbered h) = read-refused number place _ h
+range-read (refused number place) (named r) = read-refused r place _
 
-origin-read : (answer : Answer Origin) → Numbered answer → originRead (originAnswer answer) ≡ answer
+origin-read : (answer : Answer Origin) → Named answer → originRead (originAnswer answer) ≡ answer
 origin-read (gives (headerOctet p j)) h = refl
 origin-read (gives (carried (dumpByte i))) h = refl
 origin-read (gives (carried (editByte k j))) h = refl
 origin-read (gives filler) h = refl
 origin-read (gives zeroed) h = refl
 origin-read (gives untouched) h = refl
-origin-read (refused number place) (numbered h) = read-refused number place _ h
+origin-read (refused number place) (named r) = read-refused r place _
 
 -- and so with what is lent after a call
 pub read-leaving : {A B : Type 0} (struct : A → B) (read : B → A) {said : B} {answer : A} {left : List ℕ} (outcome : A × List ℕ)
@@ -83,7 +86,7 @@ answers =
         exit = (done .from, (done .to, (done .length, (pending .from, (pending .to, (pending .length, (done-first, tt)))))));
         promise = refl;
         given = refl;
-        answer-is = ap (mapAnswer (withRange pending)) (range-read (moveEdit done pending done-first) (move-numbered done pending done-first)) ∙ e;
+        answer-is = ap (mapAnswer (withRange pending)) (range-read (moveEdit done pending done-first) (move-named done pending done-first)) ∙ e;
         left = tt;
       };
     }
@@ -97,24 +100,24 @@ promised =
           let g = s .given in
           read-leaving changeAnswer changeRead (splice sysex8 words len (edit .from) (edit .to) bytes)
           (rw (g .0, g .1, g .2, g .3, g .4, s .left) at (s .promise)) (s .answer-is)
-          (change-read _ (splice-numbered sysex8 words len (edit .from) (edit .to) bytes));
+          (change-read _ (splice-named sysex8 words len (edit .from) (edit .to) bytes));
       moves = λ {done = done} {pending} {done-first} m.
           sym (m .answer-is)
           ∙ ap (mapAnswer (withRange pending))
-          (ap rangeRead (rw (m .given) at (m .promise)) ∙ range-read (moveEdit done pending done-first) (move-numbered done pending done-first));
+          (ap rangeRead (rw (m .given) at (m .promise)) ∙ range-read (moveEdit done pending done-first) (move-named done pending done-first));
       repacks = λ {words = words} {len = len} r.
           let g = r .given in
           read-leaving numberAnswer numberRead (repack sysex8 words len) (rw (g .0, g .1, r .left) at (r .promise)) (r .answer-is)
-          (number-read _ (repack-numbered sysex8 words len));
+          (number-read _ (repack-named sysex8 words len));
       at-once = λ {words = words} {len = len} {numbers = numbers} {bytes = bytes} b a.
           let g = a .given in
           read-leaving changeAnswer changeRead (spliceAll sysex8 words len numbers bytes)
-          (rw (g .0, g .1, g .2, g .3, a .left) at (a .promise)) (a .answer-is) (change-read _ (all-numbered sysex8 words len numbers bytes));
+          (rw (g .0, g .1, g .2, g .3, a .left) at (a .promise)) (a .answer-is) (change-read _ (all-named sysex8 words len numbers bytes));
       asks = λ {words = words} {len} {numbers} {bytes} {q} b a.
           let g = a .given in
           sym (a .answer-is)
           ∙ ap originRead (rw (g .0, g .1, g .2, g .3, g .4) at (a .promise))
-          ∙ origin-read (origin sysex8 words len numbers bytes q) (origin-numbered sysex8 words len numbers bytes q);
+          ∙ origin-read (origin sysex8 words len numbers bytes q) (origin-named sysex8 words len numbers bytes q);
       answers = answers;
       can-repack = λ {words = words} {left} {len} {new} e. record {
         lifetimes = ([], tt);

@@ -5,7 +5,7 @@ use Rattle.refusal.specs.Answer.{gives}
 use Rattle.refusal.specs.Tight.{lent}
 use Rattle.ump.specs.Stream.{toSysex7}
 use Rattle.ump.specs.RealTime.{PassesOver, PromisedWriter}
-use Rattle.ump.proofs.Numbered.{stream-numbered}
+use Rattle.ump.proofs.Named.{stream-named}
 use Rattle.ump.proofs.RealTime as laws
 use Rattle.answers.specs.Answers.{leaving, numberAnswer}
 use Rattle.answers.specs.Read.{numberRead}
@@ -18,7 +18,7 @@ promised =
       says = λ bytes group words answer left w.
           let g = w .given in
           read-leaving numberAnswer numberRead (toSysex7 bytes group words) (rw (g .0, g .1, g .2, w .left) at (w .promise)) (w .answer-is)
-          (number-read _ (stream-numbered bytes group words));
+          (number-read _ (stream-named bytes group words));
       can-answer = λ bytes group words n left e. record {
         lifetimes = ([], ([], tt));
         arguments = (lent bytes, (group, (lent words, tt)));

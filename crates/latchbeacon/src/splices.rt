@@ -18,7 +18,7 @@ pub extern "C" fn latchbeacon_sysex8_words_needed(size: usize) -> usize
     splice::sysex8::words_needed(size)
 }
 
-// Rewrites the message in fewest-packet form and answers its new length; the check's refusals, then Spread, Room.
+// Rewrites the message in fewest-packet form and answers its new length; the check's refusals alone.
 #[no_mangle]
 pub extern "C" fn latchbeacon_sysex8_repack(words: &mut [u32], length: usize) -> NumberAnswer
     ensures { λ r. ⌜ (r, now (words .exit)) ≡ leaving numberAnswer (repack sysex8 (now (words .entry)) length) ⌝ }
@@ -26,7 +26,7 @@ pub extern "C" fn latchbeacon_sysex8_repack(words: &mut [u32], length: usize) ->
     answers::repacked(splice::sysex8::repack(words, length))
 }
 
-// Replaces the payload bytes `from..to` by the bytes lent; the check's refusals, then Range, Spread, Room.
+// Replaces the payload bytes `from..to` by the bytes lent; the check's refusals, then Range, Room.
 #[no_mangle]
 pub extern "C" fn latchbeacon_sysex8_splice(
     words: &mut [u32],
@@ -41,7 +41,7 @@ pub extern "C" fn latchbeacon_sysex8_splice(
     answers::change(splice::sysex8::splice(words, length, from, to, replacement))
 }
 
-// Sets the payload, a splice of the whole; the check's refusals, then Spread, Room.
+// Sets the payload, a splice of the whole; the check's refusals, then Room.
 #[no_mangle]
 pub extern "C" fn latchbeacon_sysex8_set_payload(
     words: &mut [u32],

@@ -4,11 +4,11 @@ use mathlib.Core.Bool.{not}
 use mathlib.Core.List.{List}
 use Prim.Native.Nat.{ℕ}
 use Rattle.refusal.specs.Answer.{Answer, gives, refused, Verdict}
-use Rattle.refusal.specs.Number.{numberOf}
+use Rattle.refusal.specs.Number.{numberOf, Named, named}
 use Rattle.refusal.specs.declared.Refusal.{Refusal}
 use Rattle.refusal.specs.declared.Refusal.the-variants.{Missing}
 use Rattle.refusal.specs.Tight.{FixesOutcome}
-use Rattle.refusal.proofs.Laws.{faultBack, fault-back, name-of-number, Named, named, by-guard, by-both, writes-named}
+use Rattle.refusal.proofs.Laws.{faultBack, fault-back, name-of-number, by-guard, by-both, writes-named}
 use Rattle.refusal.proofs.Tight.{both-fixed, once}
 use Rattle.ump.specs.Edits.{elem}
 use Rattle.store.specs.Store.{dumpsOf, numbersOf}

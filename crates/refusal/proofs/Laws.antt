@@ -1,14 +1,13 @@
 -- No two refusals share a number, and an answer is fixed by what it means. Assumes nothing.
 use mathlib.Core.Path.{_≡_, refl, sym, ap, _∙_}
 use mathlib.Core.Bool.{Bool, true, false}
-use Prim.Native.Nat.{ℕ, _<_}
-use lib.Dec.{lit<}
+use Prim.Native.Nat.{ℕ, zero, suc, _<_}
 use native.Mathlib.Omega.{arith}
 use Rattle.refusal.specs.Answer.{Answer, gives, refused, Verdict, pass, _▷_, guard, writesAs, writes}
-use Rattle.refusal.specs.Number.{numberOf, nameOf}
+use Rattle.refusal.specs.Number.{numberOf, nameOf, Named, accepted, named}
 use Rattle.refusal.specs.Meaning.{storedMeaning, byteMeaning}
 use Rattle.refusal.specs.declared.Refusal.{Refusal}
-use Rattle.refusal.specs.declared.Refusal.the-variants.{Long, Length, Short, Ragged, «Type», Complete, Begin, Continue, End, Count, Group, Stream, Range, Room, Status, Field, Frame, Byte, Spread, Overlap, Format, Twice, Full, Missing, Ring}
+use Rattle.refusal.specs.declared.Refusal.the-variants.{Long, Length, Short, Ragged, «Type», Complete, Begin, Continue, End, Count, Group, Stream, Range, Room, Status, Field, Frame, Byte, Overlap, Format, Twice, Full, Missing, Ring}
 use Rattle.refusal.specs.declared.Fault.{Fault}
 use Rattle.refusal.specs.declared.Stored.{Stored}
 use Rattle.refusal.specs.declared.Stored.the-variants as stored
@@ -37,7 +36,6 @@ name-of-number Status = refl
 name-of-number Field = refl
 name-of-number Frame = refl
 name-of-number Byte = refl
-name-of-number Spread = refl
 name-of-number Overlap = refl
 name-of-number Format = refl
 name-of-number Twice = refl
@@ -48,33 +46,21 @@ name-of-number Ring = refl
 pub number-once : (r s : Refusal) → numberOf r ≡ numberOf s → r ≡ s
 number-once r s e = sym (name-of-number r) ∙ ap nameOf e ∙ name-of-number s
 
+-- a number that no name has is the number of no refusal
+unused : (n : ℕ) → (numberOf (nameOf n) ≡ n → ⊥) → (r : Refusal) → numberOf r ≡ n → ⊥
+unused n nameless r e = nameless (ap numberOf (ap nameOf (sym e) ∙ name-of-number r) ∙ e)
+
 -- none is 0, which says "accepted" in a struct
 pub number-some : (r : Refusal) → 0 < numberOf r
-number-some Long = lit< tt
-number-some Length = lit< tt
-number-some Short = lit< tt
-number-some Ragged = lit< tt
-number-some «Type» = lit< tt
-number-some Complete = lit< tt
-number-some Begin = lit< tt
-number-some Continue = lit< tt
-number-some End = lit< tt
-number-some Count = lit< tt
-number-some Group = lit< tt
-number-some Stream = lit< tt
-number-some Range = lit< tt
-number-some Room = lit< tt
-number-some Status = lit< tt
-number-some Field = lit< tt
-number-some Frame = lit< tt
-number-some Byte = lit< tt
-number-some Spread = lit< tt
-number-some Overlap = lit< tt
-number-some Format = lit< tt
-number-some Twice = lit< tt
-number-some Full = lit< tt
-number-some Missing = lit< tt
-number-some Ring = lit< tt
+number-some r = some (numberOf r) (unused 0 (λ e. omega arith) r)
+  where
+    some : (n : ℕ) → (n ≡ 0 → ⊥) → 0 < n
+    some zero h = absurd (h refl)
+    some (suc n) h = omega arith
+
+-- none is 19, which T-12 took out
+pub not-nineteen : (r : Refusal) → numberOf r ≡ 19 → ⊥
+not-nineteen = unused 19 (λ e. omega arith)
 
 -- ---- answers
 
@@ -116,9 +102,10 @@ byte-once = once byteMeaning byteBack byte-back
 
 -- ---- answers whose refusals have names
 
-pub data Named {A : Type 0} : Answer A → Type 0 where
-  accepted : {value : A} → Named (gives value)
-  named : (r : Refusal) {place : ℕ} → Named (refused (numberOf r) place)
+-- and so none is 19
+pub never-nineteen : {A : Type 0} {answer : Answer A} → Named answer → (place : ℕ) → answer ≡ refused 19 place → ⊥
+never-nineteen accepted place e = never-both e
+never-nineteen (named r) place e = not-nineteen r cc
 
 pub by-guard : (b : Bool) (r : Refusal) (place : ℕ) → Named (guard b (numberOf r) place)
 by-guard true r place = named r
@@ -129,6 +116,10 @@ by-both (gives u) answer h k = k
 by-both (refused number place) answer (named r) k = named r
 
 -- ---- a value after a check
+
+pub guard-passed : (b : Bool) (number place : ℕ) → guard b number place ≡ pass → b ≡ false
+guard-passed true number place e = never-refused e
+guard-passed false number place e = refl
 
 pub given-passes : {A : Type 0} (v : Verdict) {a b : A} → v ▷ gives a ≡ gives b → (v ≡ pass) × (a ≡ b)
 given-passes (gives u) e = (refl, cc)

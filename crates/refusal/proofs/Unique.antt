@@ -4,8 +4,10 @@ use native.Mathlib.Omega.{arith}
 use contract.Lifetimes.{Lfts}
 use denote.Triple.Clauses.{AtExit}
 use borrow.Fn.Kinds.{endedOf}
+use Rattle.refusal.specs.declared.Refusal.{Refusal}
 use Rattle.refusal.specs.declared.Refusal.the-variants.{Long, Ring}
 use Rattle.refusal.specs.Tight.{FixesResult}
+use Rattle.refusal.proofs.Laws.{not-nineteen}
 use Rattle.refusal.proofs.number.Kinds as number-kinds
 use Rattle.refusal.proofs.number.Reads as number
 
@@ -19,3 +21,7 @@ module _ (κs : Lfts 0) (s : AtExit (endedOf 0 number-kinds.ps number-kinds.r) �
 
   not-past-table : number.Post κs (Ring, tt) 26 s → ⊥
   not-past-table p = omega (arith, p)
+
+  -- the number that T-12 took out, of any refusal
+  not-nineteen-again : (refusal : Refusal) → number.Post κs (refusal, tt) 19 s → ⊥
+  not-nineteen-again refusal p = not-nineteen refusal (sym p)

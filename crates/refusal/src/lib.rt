@@ -2,7 +2,7 @@
 ghost use mathlib.Core.Path.{_≡_};
 ghost use Rattle.refusal.specs.Number.{numberOf};
 
-// Why a call refuses: the names of 01's table, and those that 02's requests add.
+// Why a call refuses: the names of 01's table as 02's T-12 leaves it, and those that 02's requests add.
 pub enum Refusal {
     Long,
     Length,
@@ -22,7 +22,6 @@ pub enum Refusal {
     Field,
     Frame,
     Byte,
-    Spread,
     Overlap,
     Format,
     Twice,
@@ -49,7 +48,7 @@ pub enum ByteRead {
     Refused(Fault),
 }
 
-// The number of a refusal.
+// The number of a refusal. No refusal has 19: T-12 took it out, and it is not used again.
 pub fn number(refusal: Refusal) -> u8
     ensures { λ r. ⌜ r ≡ numberOf refusal ⌝ }
 {
@@ -72,7 +71,6 @@ pub fn number(refusal: Refusal) -> u8
         Refusal::Field => 16,
         Refusal::Frame => 17,
         Refusal::Byte => 18,
-        Refusal::Spread => 19,
         Refusal::Overlap => 20,
         Refusal::Format => 21,
         Refusal::Twice => 22,

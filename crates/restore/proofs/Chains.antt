@@ -10,13 +10,12 @@ use lib.Dec.{ltb}
 use lib.ListN.{length}
 use borrow.Author.Tests.{ltb-false}
 use Rattle.refusal.specs.Answer.{Answer, gives, refused, Verdict, pass, _▷_, guard, mapAnswer}
-use Rattle.refusal.proofs.Laws.{never-refused, writes-refused}
+use Rattle.refusal.proofs.Laws.{never-refused, writes-refused, guard-passed}
 use Rattle.refusal.proofs.Laws as refusals
 use Rattle.ump.specs.Packet.{sysex8, joined}
 use Rattle.ump.specs.Packing.{wordsFor}
 use Rattle.ump.specs.Limits.{mostWords}
 use Rattle.ump.specs.Edits.{Patch, replaced}
-use Rattle.ump.proofs.Done.{guard-passed}
 use Rattle.store.specs.Store.{Dump, delta, dumpsOf, sound, held}
 use Rattle.store.proofs.Checks.{sound-good}
 use Rattle.chain.specs.Walk.{baseOf, comes, InRing, IsMissing}

@@ -46,6 +46,13 @@ zeros-drop : (k n : ℕ) → _≡_ {A = List ℕ} (drop k (replicate (k + n) 0))
 unfolding zeros
 zeros-drop k n = drop-zeros k n
 
+zero-words : _≡_ {A = ℕ} (wordsFor sysex8 0) 4
+unfolding packetsFor
+zero-words = refl
+
+pub words-four : (n : ℕ) → 4 ≤ wordsFor sysex8 n
+words-four n = omega (arith, words-mono sysex8 0 n (omega arith), zero-words)
+
 module _ (group id : ℕ) (g : group < 16) (i : id < 256) (n : ℕ) (h : n ≤ mostWords) (bytes : List ℕ) (room : wordsFor sysex8 (length bytes) ≤ n) where
   abbrev message : List ℕ
   message = pack sysex8 group (id ∷ []) bytes
@@ -54,12 +61,7 @@ module _ (group id : ℕ) (g : group < 16) (i : id < 256) (n : ℕ) (h : n ≤ m
   words = pack sysex8 group (id ∷ []) [] ++ replicate (n - 4) 0
 
   four : 4 ≤ wordsFor sysex8 (length bytes)
-  unfolding packetsFor
-  four = let q : _≡_ {A = ℕ} (wordsFor sysex8 0) 4 = refl in omega (arith, words-mono sysex8 0 (length bytes) (omega arith), q)
-
-  zero-words : _≡_ {A = ℕ} (wordsFor sysex8 0) 4
-  unfolding packetsFor
-  zero-words = refl
+  four = words-four (length bytes)
 
   long : length words ≡ n
   long = length-append (pack sysex8 group (id ∷ []) []) (replicate (n - 4) 0) ∙ omega (arith, length-pack sysex8 group (id ∷ []) [] refl, zero-words, length-replicate {A = ℕ} (n - 4) 0, four)
@@ -98,17 +100,12 @@ module _ (group id : ℕ) (g : group < 16) (i : id < 256) (n : ℕ) (h : n ≤ m
       rw (
         carries,
         valid-passes sysex8 words 4 valid,
-        zero-words,
         append-nil bytes,
         le-ltb (length words) (wordsFor sysex8 (length bytes)) (omega (arith, long, room)),
         group-is,
         id-is,
       )
       stored-is
-
-pub words-four : (n : ℕ) → 4 ≤ wordsFor sysex8 n
-unfolding packetsFor
-words-four n = let q : _≡_ {A = ℕ} (wordsFor sysex8 0) 4 = refl in omega (arith, words-mono sysex8 0 n (omega arith), q)
 
 -- what stands in the words after the three steps
 pub put-is : (group id : ℕ) → group < 16 → id < 256 → (before bytes : List ℕ) → length before ≤ mostWords → wordsFor sysex8 (length bytes) ≤ length before

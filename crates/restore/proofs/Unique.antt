@@ -2,10 +2,10 @@
 use mathlib.Core.Path.{_≡_, refl, ap}
 use Prim.Native.Nat.{ℕ}
 use Rattle.refusal.specs.Answer.{Answer, gives, refused}
-use Rattle.refusal.specs.Number.{numberOf}
+use Rattle.refusal.specs.Number.{numberOf, Named, named}
 use Rattle.refusal.specs.declared.Refusal.{Refusal}
 use Rattle.refusal.specs.Tight.{FixesOutcome}
-use Rattle.refusal.proofs.Laws.{faultBack, fault-back, name-of-number, Named, named}
+use Rattle.refusal.proofs.Laws.{faultBack, fault-back, name-of-number}
 use Rattle.refusal.proofs.Tight.{both-fixed, once}
 use Rattle.restore.specs.Meaning.{restoredMeaning}
 use Rattle.restore.specs.declared.Restored.{Restored}

@@ -9,10 +9,10 @@ use lib.ListN.{length, take, length-map}
 use lib.Seq.{length-take-le}
 use borrow.Author.Tests.{ltb-false}
 use Rattle.refusal.specs.Answer.{gives, refused, pass, _▷_, guard}
-use Rattle.refusal.specs.Number.{numberOf}
+use Rattle.refusal.specs.Number.{numberOf, Named, accepted}
 use Rattle.refusal.specs.declared.Fault.{Fault}
 use Rattle.refusal.specs.declared.Refusal.the-variants.{Format, Twice, Full}
-use Rattle.refusal.proofs.Laws.{never-refused, given-passes, refused-by, Named, by-guard, by-both, accepted}
+use Rattle.refusal.proofs.Laws.{never-refused, given-passes, refused-by, by-guard, by-both}
 use Rattle.store.specs.Store.{recordsOf, atStart, wellFormed, Dump, dumpsOf, numbersOf, twice, mostDumps, sound, checkStore}
 use Rattle.store.specs.Places.{dumpAt, Noted}
 use Rattle.store.specs.Meaning.{checkedMeaning, Indexes}

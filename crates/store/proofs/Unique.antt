@@ -2,10 +2,10 @@
 use mathlib.Core.Path.{_≡_, refl, sym, ap, _∙_}
 use Prim.Native.Nat.{ℕ}
 use Rattle.refusal.specs.Answer.{Answer, gives, refused}
-use Rattle.refusal.specs.Number.{numberOf}
+use Rattle.refusal.specs.Number.{numberOf, Named, named}
 use Rattle.refusal.specs.declared.Refusal.{Refusal}
 use Rattle.refusal.specs.Tight.{FixesResult}
-use Rattle.refusal.proofs.Laws.{faultBack, fault-back, name-of-number, Named, named}
+use Rattle.refusal.proofs.Laws.{faultBack, fault-back, name-of-number}
 use Rattle.refusal.proofs.Tight.{once}
 use Rattle.store.specs.Meaning.{checkedMeaning}
 use Rattle.store.specs.declared.Checked.{Checked}

@@ -9,7 +9,7 @@ use lib.Dec.{eqb, ltb}
 use borrow.Author.Tests.{ltb-false, le-ltb, eqb-true, eq-eqb, not-false}
 use lib.ListN.{length}
 use Rattle.refusal.specs.Answer.{gives, refused, Verdict, pass, _▷_, guard}
-use Rattle.refusal.proofs.Laws.{never-refused}
+use Rattle.refusal.proofs.Laws.{never-refused, guard-passed}
 use Rattle.ump.specs.Packet.{Shape, countAt, idAt}
 use Rattle.ump.specs.Limits.{mostWords}
 use Rattle.ump.specs.Check.{firstWhere, sweep, statusNumber, same, badType, badStatus, badCount, badGroup, badId, checkPackets, check, Valid}
@@ -21,13 +21,9 @@ use Rattle.ump.proofs.First.{first-none, first-before}
 pub sweep-pass : (shape : Shape) (nr : ℕ → ℕ) (bad : ℕ → Bool) (n : ℕ) → ((p : ℕ) → p < n → bad p ≡ false) → sweep shape nr bad n ≡ pass
 sweep-pass shape nr bad n h = rw (first-none bad n h, le-ltb n n (omega arith))
 
-guard-pass : (b : Bool) (nr at : ℕ) → guard b nr at ≡ pass → b ≡ false
-guard-pass true nr at e = never-refused e
-guard-pass false nr at e = refl
-
 pub pass-sweep : (shape : Shape) (nr : ℕ → ℕ) (bad : ℕ → Bool) (n : ℕ) → sweep shape nr bad n ≡ pass → (p : ℕ) → p < n → bad p ≡ false
 pass-sweep shape nr bad n e p h =
-    let k : n ≤ firstWhere bad n = ltb-false (firstWhere bad n) n (guard-pass _ _ _ e) in
+    let k : n ≤ firstWhere bad n = ltb-false (firstWhere bad n) n (guard-passed _ _ _ e) in
     first-before bad n p (omega arith)
 
 pub pass-both : (u v : Verdict) → u ▷ v ≡ pass → (u ≡ pass) × (v ≡ pass)
@@ -100,11 +96,11 @@ passes-valid shape words len e =
     let e6 = pass-both _ _ (e5 .1) in
     let e10 = pass-both _ _ (e6 .1) in
     let e11 = pass-both _ _ (e10 .1) in
-    let l : shape .words ≤ len = ltb-false _ _ (guard-pass _ _ _ (e3 .0)) in
-    let r : len % shape .words ≡ 0 = eqb-true _ _ (not-false _ (guard-pass _ _ _ (e4 .0))) in
+    let l : shape .words ≤ len = ltb-false _ _ (guard-passed _ _ _ (e3 .0)) in
+    let r : len % shape .words ≡ 0 = eqb-true _ _ (not-false _ (guard-passed _ _ _ (e4 .0))) in
     record {
-      short-enough = ltb-false _ _ (guard-pass _ _ _ (e1 .0));
-      inside = ltb-false _ _ (guard-pass _ _ _ (e2 .0));
+      short-enough = ltb-false _ _ (guard-passed _ _ _ (e1 .0));
+      inside = ltb-false _ _ (guard-passed _ _ _ (e2 .0));
       packets = n;
       some-packet = div-pos (words-pos shape) l;
       whole = sym split ∙ rw (r, add-zero);

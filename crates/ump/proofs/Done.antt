@@ -1,22 +1,19 @@
 -- What is known where a splice or a packing is done. Assumes nothing.
-use mathlib.Core.Path.{_≡_, refl, ap}
-use mathlib.Core.Bool.{Bool, true, false, _||_}
+use mathlib.Core.Path.{_≡_, ap}
+use mathlib.Core.Bool.{_||_}
 use mathlib.Core.List.{List}
 use Prim.Native.Nat.{ℕ, _-_, _≤_}
 use lib.Dec.{ltb}
 use lib.ListN.{length}
 use borrow.Author.Tests.{ltb-false}
 use Rattle.refusal.specs.Answer.{gives, pass, _▷_, guard}
-use Rattle.refusal.proofs.Laws.{never-refused, writes-given}
+use Rattle.refusal.proofs.Laws.{guard-passed, writes-given}
 use Rattle.ump.specs.Packet.{Shape}
 use Rattle.ump.specs.Packing.{wordsFor}
 use Rattle.ump.specs.Check.{check, payloadOf}
 use Rattle.ump.specs.Splice.{spliced, rewritten, growthBy, Spliced, splice, repack}
-use Rattle.ump.proofs.Checks.{pass-both, or-left, or-right}
-
-pub guard-passed : (b : Bool) (number place : ℕ) → guard b number place ≡ pass → b ≡ false
-guard-passed true number place e = never-refused e
-guard-passed false number place e = refl
+use Rattle.ump.proofs.Checks.{passes-valid, pass-both, or-left, or-right}
+use Rattle.ump.proofs.Message.{packing-has-room}
 
 -- in range and with room, and the message written is the fewest-packet form of the new payload
 pub record Known (shape : Shape) (words : List ℕ) (len from to : ℕ) (bytes : List ℕ) (change : Spliced) (left : List ℕ) : Type 0 where
@@ -37,22 +34,19 @@ known shape words len from to bytes change left e =
     writes-given
     (check shape words len
     ▷ guard (ltb to from || ltb (length old) to) 13 0
-    ▷ guard (ltb len (wordsFor shape (length old))) 19 0
     ▷ guard (ltb (length words) (wordsFor shape (length new))) 14 0)
     words (rewritten shape words len new) (record { length = wordsFor shape (length new); growth = growthBy (length bytes) (to - from) }) e
     in
     let last = guard (ltb (length words) (wordsFor shape (length new))) 14 0 in
-    let spread = guard (ltb len (wordsFor shape (length old))) 19 0 in
     let outside = guard (ltb to from || ltb (length old) to) 13 0 in
-    let a = pass-both (check shape words len) (outside ▷ spread ▷ last) (w .0) in
-    let b = pass-both outside (spread ▷ last) (a .1) in
-    let c = pass-both spread last (b .1) in
+    let a = pass-both (check shape words len) (outside ▷ last) (w .0) in
+    let b = pass-both outside last (a .1) in
     let range = guard-passed (ltb to from || ltb (length old) to) 13 0 (b .0) in
     record {
       passes = a .0;
       forward = ltb-false to from (or-left (ltb to from) (ltb (length old) to) range);
       inside = ltb-false (length old) to (or-right (ltb to from) (ltb (length old) to) range);
-      room = ltb-false (length words) (wordsFor shape (length new)) (guard-passed (ltb (length words) (wordsFor shape (length new))) 14 0 (c .1));
+      room = ltb-false (length words) (wordsFor shape (length new)) (guard-passed (ltb (length words) (wordsFor shape (length new))) 14 0 (b .1));
       length-is = ap (λ (x : Spliced). x .length) (w .1);
       left-is = w .2;
     }
@@ -67,15 +61,10 @@ pub record Packing (shape : Shape) (words : List ℕ) (len new : ℕ) (left : Li
 pub packed : (shape : Shape) (words : List ℕ) (len new : ℕ) (left : List ℕ) → repack shape words len ≡ (gives new, left) → Packing shape words len new left
 unfolding repack
 packed shape words len new left e =
-    let needed : ℕ = wordsFor shape (length (payloadOf shape words len)) in
-    let spread = guard (ltb len needed) 19 0 in
-    let last = guard (ltb (length words) needed) 14 0 in
-    let w = writes-given (check shape words len ▷ spread ▷ last) words (rewritten shape words len (payloadOf shape words len)) needed e in
-    let a = pass-both (check shape words len) (spread ▷ last) (w .0) in
-    let b = pass-both spread last (a .1) in
+    let w = writes-given (check shape words len) words (rewritten shape words len (payloadOf shape words len)) (wordsFor shape (length (payloadOf shape words len))) e in
     record {
-      passes = a .0;
-      room = ltb-false (length words) needed (guard-passed (ltb (length words) needed) 14 0 (b .1));
+      passes = w .0;
+      room = packing-has-room shape words len (passes-valid shape words len (w .0));
       length-is = w .1;
       left-is = w .2;
     }

@@ -37,6 +37,6 @@ pub mod Steps
 pub mod Demand
 pub mod Demand3
 pub mod Orders
-pub mod Numbered
+pub mod Named
 pub mod Withdrawn
 pub mod Asking

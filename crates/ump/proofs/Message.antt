@@ -2,7 +2,7 @@
 use mathlib.Core.Path.{_≡_, refl, sym, _∙_}
 use mathlib.Core.List.{List, _++_}
 use Prim.Native.Nat.{ℕ, zero, suc, _-_, _*_, _/_, _≤_, _<_, min}
-use native.Mathlib.Nat.{mul-suc, mul-div-right, mul-le-mul-left}
+use native.Mathlib.Nat.{le-trans, mul-suc, mul-div-right, mul-le-mul-left}
 use native.Mathlib.Omega.{arith}
 use lib.ListN.{length, length-append, length-map, length-take, length-drop}
 use Rattle.refusal.specs.Answer.{gives}
@@ -102,9 +102,13 @@ length-payload shape words zero = omega arith
 length-payload shape words (suc n) =
     simp (length-append, length-map, length-take) (omega (arith, length-payload shape words n, size-small shape (countAt shape words n)))
 
-pub no-spread : (shape : Shape) (words : List ℕ) (len : ℕ) → Valid shape words len → wordsFor shape (length (payloadOf shape words len)) ≤ len
-no-spread shape words len v =
+pub packing-fits : (shape : Shape) (words : List ℕ) (len : ℕ) → Valid shape words len → wordsFor shape (length (payloadOf shape words len)) ≤ len
+packing-fits shape words len v =
     let q : len / shape .words ≡ v .packets = rw (v .whole) (mul-div-right (v .packets) (words-pos shape)) in
     rw (q, v .whole)
     (mul-le-mul-left (shape .words)
     (packets-least shape (length (payload shape words (v .packets))) (v .packets) (v .some-packet) (length-payload shape words (v .packets))))
+
+-- nor than are lent
+pub packing-has-room : (shape : Shape) (words : List ℕ) (len : ℕ) → Valid shape words len → wordsFor shape (length (payloadOf shape words len)) ≤ length words
+packing-has-room shape words len v = le-trans (packing-fits shape words len v) (v .inside)

@@ -2,23 +2,21 @@
 use mathlib.Core.Path.{_≡_, refl, _∙_}
 use mathlib.Core.List.{List, [], _∷_}
 use Prim.Native.Nat.{ℕ, zero, suc, _+_, _-_, _/_, _≤_, _<_}
-use native.Mathlib.Nat.{le-trans}
 use native.Mathlib.Omega.{arith}
-use lib.IntN.{ℤ}
 use lib.ListN.{length, take, drop, length-append, length-take, length-drop, length-replicate}
 use lib.Seq.{take-at}
 use borrow.Author.Tests.{le-ltb}
-use Rattle.refusal.specs.Answer.{Answer, gives}
+use Rattle.refusal.specs.Answer.{gives}
 use Rattle.ump.specs.Word.{octet, octets, Below}
 use Rattle.ump.specs.Packet.{Shape, header, firstWord, sizeAt, groupAt, idAt, packet, payloadAt, joined, payload}
 use Rattle.ump.specs.Packing.{wordsFor, pack}
-use Rattle.ump.specs.Splice.{spliced, stored, rewritten, repack, growthBy, Spliced, splice}
+use Rattle.ump.specs.Splice.{spliced, stored, rewritten, repack, growthBy, splice}
 use Rattle.ump.specs.Holds.{Holds, Packed}
 use Rattle.ump.proofs.Words.{below-append, below-take, below-drop, below-map}
 use Rattle.ump.proofs.Sizes.{limit-pos}
 use Rattle.ump.proofs.Packing.{length-pack}
 use Rattle.ump.proofs.Checks.{valid-passes}
-use Rattle.ump.proofs.Message.{payloadOf-pack, group-of-pack, id-of-pack, pack-valid, no-spread}
+use Rattle.ump.proofs.Message.{payloadOf-pack, group-of-pack, id-of-pack, pack-valid}
 
 -- ---- what is read off a message fits where it is written
 
@@ -97,18 +95,9 @@ module _ (shape : Shape) (group : ℕ) (id bytes : List ℕ) (size : ℕ) (words
 -- ---- packing: never refused, of a valid message
 
 module _ (shape : Shape) (group : ℕ) (id bytes : List ℕ) (size : ℕ) (words : List ℕ) (len : ℕ) (h : Holds shape group id bytes size words len) where
-  needed : wordsFor shape (length bytes) ≤ len
-  needed = rw (h .carries) at (no-spread shape words len (h .valid))
-
   pub repack-done : repack shape words len ≡ (gives (wordsFor shape (length bytes)), rewritten shape words len bytes)
   unfolding repack
-  repack-done =
-      rw (
-        h .carries,
-        valid-passes shape words len (h .valid),
-        le-ltb len (wordsFor shape (length bytes)) needed,
-        le-ltb (length words) (wordsFor shape (length bytes)) (le-trans needed (h .valid .inside)),
-      )
+  repack-done = rw (h .carries, valid-passes shape words len (h .valid))
 
   -- ---- one splice, of a range inside the payload, with room
 
@@ -123,7 +112,6 @@ module _ (shape : Shape) (group : ℕ) (id bytes : List ℕ) (size : ℕ) (words
           valid-passes shape words len (h .valid),
           le-ltb to from ft,
           le-ltb (length bytes) to tl,
-          le-ltb len (wordsFor shape (length bytes)) needed,
           le-ltb (length words) (wordsFor shape (length (spliced bytes from to r))) (omega (arith, h .buffer)),
         )
 

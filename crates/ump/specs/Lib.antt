@@ -9,12 +9,14 @@ pub mod Reader
 pub mod Setters
 pub mod Setting
 pub mod Splice
+pub mod Withdrawn
 pub mod Edits
 pub mod Partly
 pub mod Holds
 pub mod Stream
 pub mod RealTime
 pub mod Samples
+pub mod PackingSamples
 pub mod Clock
 pub mod Runs
 pub mod Origin

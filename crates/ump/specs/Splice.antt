@@ -24,13 +24,12 @@ stored words len message = message ++ (replicate (len - length message) 0 ++ dro
 unfoldable pub rewritten : Shape → List ℕ → ℕ → List ℕ → List ℕ
 rewritten shape words len bytes = stored words len (pack shape (groupAt shape words 0) (idAt shape words 0) bytes)
 
--- packing: 1 to 12, Spread, Room; answers the new length
+-- packing: 1 to 12 alone, as that of a valid message never needs more words than it has (proofs/Message.packing-fits); answers the new
+-- length
 unfoldable pub repack : Shape → List ℕ → ℕ → Answer ℕ × List ℕ
 repack shape words len =
     let bytes = payloadOf shape words len in
-    let needed = wordsFor shape (length bytes) in
-    writes (check shape words len ▷ guard (ltb len needed) 19 0 ▷ guard (ltb (length words) needed) 14 0) words needed
-    (rewritten shape words len bytes)
+    writes (check shape words len) words (wordsFor shape (length bytes)) (rewritten shape words len bytes)
 
 -- growth, replacement length minus range length, may be below zero
 abbrev pub growthBy : ℕ → ℕ → ℤ
@@ -41,7 +40,7 @@ pub record Spliced : Type 0 where
   pub length : ℕ
   pub growth : ℤ
 
--- splice: 1 to 12, Range, Spread, Room
+-- splice: 1 to 12, Range, Room
 unfoldable pub splice : Shape → List ℕ → ℕ → ℕ → ℕ → List ℕ → Answer Spliced × List ℕ
 splice shape words len from to replacement =
     let bytes = payloadOf shape words len in
@@ -49,7 +48,6 @@ splice shape words len from to replacement =
     writes
     (check shape words len
     ▷ guard (ltb to from || ltb (length bytes) to) 13 0
-    ▷ guard (ltb len (wordsFor shape (length bytes))) 19 0
     ▷ guard (ltb (length words) (wordsFor shape (length new))) 14 0)
     words
     (record { length = wordsFor shape (length new); growth = growthBy (length replacement) (to - from) })

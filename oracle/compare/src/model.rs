@@ -313,7 +313,9 @@ fn rewrite(input: &Input) -> Ours {
         return Ours::refused(13, 0, &input.words);
     }
     let growth = input.bytes.len() as i64 - (to - from) as i64;
-    if words_needed((size as i64 + growth) as u64) > input.words.len() as u64 {
+    // Packing has no room to ask for (T-12): the slice below would fail if it needed more words than the message has.
+    let packs = input.kind == Kind::Pack;
+    if !packs && words_needed((size as i64 + growth) as u64) > input.words.len() as u64 {
         return Ours::refused(14, 0, &input.words);
     }
     payload.splice(from as usize..to as usize, input.bytes.iter().copied());

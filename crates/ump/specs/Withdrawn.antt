@@ -1,0 +1,36 @@
+-- Packing and splice as they stood until document 02's T-12, with the tests that it took out, word for word: 19 was refused, by the name of
+-- Spread, if the packing would need more words than the message has. No call is described by these; they are here so that proofs/Withdrawn
+-- can say that no input was ever answered 19, and that every input is answered as before.
+-- Assumes nothing.
+use mathlib.Core.Bool.{_||_}
+use mathlib.Core.List.{List}
+use Prim.Native.Nat.{ℕ, _-_}
+use lib.Dec.{ltb}
+use lib.ListN.{length}
+use Rattle.refusal.specs.Answer.{Answer, _▷_, guard, writes}
+use Rattle.ump.specs.Packet.{Shape}
+use Rattle.ump.specs.Packing.{wordsFor}
+use Rattle.ump.specs.Check.{check, payloadOf}
+use Rattle.ump.specs.Splice.{spliced, rewritten, growthBy, Spliced}
+
+-- packing: 1 to 12, 19, Room
+unfoldable pub repackBefore : Shape → List ℕ → ℕ → Answer ℕ × List ℕ
+repackBefore shape words len =
+    let bytes = payloadOf shape words len in
+    let needed = wordsFor shape (length bytes) in
+    writes (check shape words len ▷ guard (ltb len needed) 19 0 ▷ guard (ltb (length words) needed) 14 0) words needed
+    (rewritten shape words len bytes)
+
+-- splice: 1 to 12, Range, 19, Room
+unfoldable pub spliceBefore : Shape → List ℕ → ℕ → ℕ → ℕ → List ℕ → Answer Spliced × List ℕ
+spliceBefore shape words len from to replacement =
+    let bytes = payloadOf shape words len in
+    let new = spliced bytes from to replacement in
+    writes
+    (check shape words len
+    ▷ guard (ltb to from || ltb (length bytes) to) 13 0
+    ▷ guard (ltb len (wordsFor shape (length bytes))) 19 0
+    ▷ guard (ltb (length words) (wordsFor shape (length new))) 14 0)
+    words
+    (record { length = wordsFor shape (length new); growth = growthBy (length replacement) (to - from) })
+    (rewritten shape words len new)

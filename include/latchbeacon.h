@@ -50,7 +50,8 @@ extern "C" {
 #endif
 
 /* 0 for a call that is accepted; else why it refuses. The place is the word index of the first packet at fault for 5 to 12, the index
- * of the first such byte for 18, else 0. No refusal has the number 19, and none will: it was taken out, as no input was ever given it. */
+ * of the first such byte for 18, else 0. No refusal has the number 19, and none will: it was taken out, as no input was ever given
+ * it. */
 enum latchbeacon_refusal {
     LATCHBEACON_ACCEPTED = 0,  /* the call is accepted */
     LATCHBEACON_LONG = 1,      /* more than LATCHBEACON_MOST_WORDS words lent */
@@ -268,8 +269,8 @@ latchbeacon_number latchbeacon_sysex8_set_byte(uint32_t *words, size_t words_len
  * answered with the exact number too. */
 size_t latchbeacon_sysex8_words_needed(size_t size);
 
-/* Rewrites the message in fewest-packet form and answers its new length in words. Refusals: the check's alone, as no message needs more
- * words than it has. */
+/* Rewrites the message in fewest-packet form and answers its new length in words. Refusals: the check's alone, as no message needs
+ * more words than it has. */
 latchbeacon_number latchbeacon_sysex8_repack(uint32_t *words, size_t words_lent, size_t length);
 
 /* Replaces the payload bytes from..to by `replacement` and writes the fewest-packet form. Refusals: the check's, then 13, 14. */

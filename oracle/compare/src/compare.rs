@@ -3,6 +3,7 @@ use crate::answers::{End, Input, Kind, Ours, Theirs};
 use crate::counts::{Counts, Outcome, StandIn};
 use crate::differences::{self, Builds, Place, ALL};
 use crate::expect::{expected, text, Expected};
+use crate::layout::SYSEX8;
 use crate::{model, original, port};
 
 /// The largest payload that the original is asked to make by `new()`.
@@ -65,8 +66,7 @@ fn index_too_big(input: &Input) -> bool {
 
 /// Whether the message takes fewer packets once packed: then words stand behind it in the midst of a splice.
 fn packs_shorter(input: &Input) -> bool {
-    let size = differences::size(input.message()) as u64;
-    model::words_needed(size) < input.numbers[0]
+    SYSEX8.words_for(differences::size(input.message())) < input.length()
 }
 
 /// Whether the original answers as ours does.

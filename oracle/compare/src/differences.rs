@@ -122,7 +122,7 @@ pub fn packets(input: &Input) -> (usize, usize) {
         kind if kind.is_payload() => input.bytes.len() as u64,
         _ => old,
     };
-    (before, (model::words_needed(new) / 4) as usize)
+    (before, SYSEX8.packets_for(new as usize))
 }
 
 /// Whether a splice's range lies in the payload; true for other calls.
@@ -419,7 +419,7 @@ fn d9a(input: &Input) -> bool {
 
 /// The packets that the old payload needs.
 fn old_packets(input: &Input) -> usize {
-    SYSEX8.fewest(size(input.message())).len()
+    SYSEX8.packets_for(size(input.message()))
 }
 
 /// Lent words, and an uneven packet past the packets that the old payload needs; past those of the result, if the

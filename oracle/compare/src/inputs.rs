@@ -221,7 +221,7 @@ fn setter(random: &mut Random, kind: Kind, words: &[u32], length: u64) -> Input 
 /// Words behind a message for a result of a size: a growing buffer's port gets just enough; lent words are
 /// sometimes exactly full, or one word short.
 fn make_room(random: &mut Random, kind: Kind, words: &mut Vec<u32>, length: usize, size: usize) {
-    let needed = 4 * SYSEX8.fewest(size).len();
+    let needed = SYSEX8.words_for(size);
     if kind.is_growing() {
         words.truncate(length);
         words.resize(needed.max(length), 0);
@@ -336,7 +336,7 @@ pub fn origin(random: &mut Random) -> Input {
     if random.once_in(30) {
         words = damaged(random, &words);
     }
-    let ends = [length as usize, words.len(), SYSEX8.fewest(new).len() * 4];
+    let ends = [length as usize, words.len(), SYSEX8.words_for(new)];
     let octet = match random.below(8) {
         0 => (4 * random.pick(&ends) + random.below(3)).saturating_sub(1),
         1 => random.pick(&[usize::MAX, 4 * MOST_WORDS, 1 << 32, 1 << 62]),
@@ -379,7 +379,7 @@ pub fn stream(random: &mut Random) -> Input {
     let mut bytes = vec![0xF0];
     bytes.extend((0..size).map(|_| random.byte() & 0x7F));
     bytes.push(0xF7);
-    let needed = SYSEX7.fewest(size).len() * 2;
+    let needed = SYSEX7.words_for(size);
     let mut group = 0;
     let mut room = needed + random.below(4);
     match random.below(16) {

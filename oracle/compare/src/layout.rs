@@ -148,13 +148,22 @@ impl Shape {
         words
     }
 
+    /// The packets of the fewest-packet form of a size: the size over the room, rounded up, and one if there are no bytes.
+    pub fn packets_for(&self, size: usize) -> usize {
+        size.div_ceil(self.room).max(1)
+    }
+
+    /// And their words.
+    pub fn words_for(&self, size: usize) -> usize {
+        self.words * self.packets_for(size)
+    }
+
     /// The sizes of the packets of the fewest-packet form.
     pub fn fewest(&self, size: usize) -> Vec<usize> {
-        let mut sizes = vec![self.room; size / self.room];
-        if size % self.room != 0 || size == 0 {
-            sizes.push(size % self.room);
-        }
-        sizes
+        let packets = 0..self.packets_for(size);
+        packets
+            .map(|packet| self.room.min(size - self.room * packet))
+            .collect()
     }
 
     /// The fewest-packet form of a payload.

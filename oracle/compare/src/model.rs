@@ -18,7 +18,7 @@ pub fn answer(input: &Input) -> Ours {
         Kind::Reader => reader(input),
         Kind::SetGroup | Kind::SetStreamId | Kind::SetByte => set_on_message(input),
         Kind::Stream => stream(input),
-        Kind::Needed => Ours::values(vec![words_needed(input.numbers[0])]),
+        Kind::Needed => Ours::values(vec![SYSEX8.words_for(input.numbers[0] as usize) as u64]),
         Kind::Origin => origin(input),
         _ => rewrite(input),
     }
@@ -288,14 +288,6 @@ fn set_on_message(input: &Input) -> Ours {
     written(as_values(&words), 0, words)
 }
 
-/// The words that the fewest-packet form of a size takes.
-pub fn words_needed(size: u64) -> u64 {
-    match size {
-        0 => 4,
-        size => 4 * size.div_ceil(13),
-    }
-}
-
 /// Packing, splice and setting the payload.
 fn rewrite(input: &Input) -> Ours {
     if let Err((number, place)) = check(&SYSEX8, &input.words, input.numbers[0]) {
@@ -315,7 +307,7 @@ fn rewrite(input: &Input) -> Ours {
     let growth = input.bytes.len() as i64 - (to - from) as i64;
     // Packing has no room to ask for (T-12): the slice below would fail if it needed more words than the message has.
     let packs = input.kind == Kind::Pack;
-    if !packs && words_needed((size as i64 + growth) as u64) > input.words.len() as u64 {
+    if !packs && SYSEX8.words_for((size as i64 + growth) as usize) > input.words.len() {
         return Ours::refused(14, 0, &input.words);
     }
     payload.splice(from as usize..to as usize, input.bytes.iter().copied());
@@ -356,7 +348,7 @@ fn origins(size: u64, edits: &[Edit], old_words: usize, words_lent: usize) -> Ve
         let replacement = (0..length).map(|byte| [2, number as u64, byte]);
         tags.splice(from as usize..to as usize, replacement);
     }
-    let packets = SYSEX8.fewest(tags.len()).len();
+    let packets = SYSEX8.packets_for(tags.len());
     let mut octets = Vec::new();
     let mut tags = tags.into_iter();
     for packet in 0..packets {
@@ -417,7 +409,8 @@ fn origin(input: &Input) -> Ours {
     };
     let new =
         old + input.bytes.len() as u64 - edits.iter().map(|edit| edit[1] - edit[0]).sum::<u64>();
-    if words_needed(new) > lent as u64 {
+    let needed = SYSEX8.words_for(new as usize);
+    if needed > lent {
         return refused((14, 0));
     }
     let origins = origins(old, &edits, input.length(), lent);
@@ -426,7 +419,7 @@ fn origin(input: &Input) -> Ours {
         Some(&origin) => (0, origin),
         None => (13, [0, 0, 0]),
     };
-    let values = vec![kind, part, index, 0, 0, words_needed(new)];
+    let values = vec![kind, part, index, 0, 0, needed as u64];
     let words = by_origin(input, &payload, &edits, &origins);
     Ours {
         refusal: number,

@@ -179,10 +179,10 @@ fn give_room(input: &mut Input) {
     } else {
         size(input.message())
     };
-    let room = model::words_needed((old + input.bytes.len()) as u64) as usize;
+    let room = SYSEX8.words_for(old + input.bytes.len());
     let needed = match input.numbers[1..] {
         [from, to] if from <= to && to <= old as u64 => {
-            model::words_needed(old as u64 + input.bytes.len() as u64 - (to - from)) as usize
+            SYSEX8.words_for(old + input.bytes.len() - (to - from) as usize)
         }
         _ => room,
     };

@@ -340,7 +340,7 @@ fn add_exactly_full(sample: &mut Sample, random: &mut Random, old: usize, new: u
     let length = message.len() as u64;
     let bytes = random.bytes(new);
     let mut words = message.clone();
-    words.resize(message.len().max(4 * SYSEX8.fewest(new).len()), 0);
+    words.resize(message.len().max(SYSEX8.words_for(new)), 0);
     let whole = [length, 0, old as u64];
     sample.add(&Input::with_bytes(
         Kind::PayloadLent,
@@ -349,7 +349,7 @@ fn add_exactly_full(sample: &mut Sample, random: &mut Random, old: usize, new: u
         &[length],
     ));
     sample.add(&Input::with_bytes(Kind::SpliceLent, &words, &bytes, &whole));
-    words.resize(message.len().max(4 * SYSEX8.fewest(old + new).len()), 0);
+    words.resize(message.len().max(SYSEX8.words_for(old + new)), 0);
     for at in [0, old as u64 / 2, old as u64] {
         sample.add(&Input::with_bytes(
             Kind::SpliceLent,

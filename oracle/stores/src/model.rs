@@ -146,15 +146,10 @@ pub fn walk(dumps: &[Dump], number: usize) -> Result<Vec<&Dump>, Refusal> {
     }
 }
 
-/// The words that a payload of a size takes.
-fn words_needed(size: usize) -> usize {
-    4 * SYSEX8.fewest(size).len()
-}
-
 /// 14 if a payload needs more words than lent; `None` is no limit.
 fn room(payload: &[u8], lent: Option<usize>) -> Result<(), Refusal> {
     match lent {
-        Some(lent) if words_needed(payload.len()) > lent => Err(14),
+        Some(lent) if SYSEX8.words_for(payload.len()) > lent => Err(14),
         _ => Ok(()),
     }
 }
@@ -196,7 +191,7 @@ fn restored(walk: &[&Dump], lent: Option<usize>) -> Result<Restored, Refusal> {
             }
         }
         room(&found.payload, lent)?;
-        found.most = found.most.max(words_needed(found.payload.len()));
+        found.most = found.most.max(SYSEX8.words_for(found.payload.len()));
     }
     Ok(found)
 }

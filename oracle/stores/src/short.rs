@@ -1,5 +1,6 @@
 //! All short stores of some kinds.
 use crate::compare::Counts;
+use crate::layout::SYSEX8;
 use crate::reclaimed;
 use crate::records::{data, delta, gone, pair, record, whole};
 
@@ -160,7 +161,7 @@ fn boundaries(counts: &mut Counts) -> Result<(), String> {
                 let replaced = delta(2, 1, &[(0, old, &bytes[..new.into()])]);
                 let emptied = delta(3, 2, &[(0, new, &[])]);
                 let store = [whole(1, &bytes[..old.into()]), replaced, emptied].concat();
-                let full = usize::from(most) / 13 * 4;
+                let full = SYSEX8.words_for(most.into());
                 for lent in [full - 4, full - 1, full, full + 1, full + 4] {
                     let words = vec![0x0102_0304; lent];
                     for number in 1..=3 {

@@ -265,8 +265,8 @@ latchbeacon_number latchbeacon_sysex8_set_byte(uint32_t *words, size_t words_len
  * Every packet but the last carries 13 bytes, group and stream id are the old first packet's, and the unused octets of the last
  * packet are zero. Words past the new end that belonged to the old message are zero; all others past it stay. */
 
-/* Answers the words that the fewest-packet form of a payload of `size` bytes takes. It refuses nothing; the largest sizes are
- * answered with the exact number too. */
+/* Answers the words that the fewest-packet form of a payload of `size` bytes takes: four for each packet. That is one packet if there
+ * are no bytes, else `size` over 13, rounded up. It refuses nothing; the largest sizes are answered with the exact number too. */
 size_t latchbeacon_sysex8_words_needed(size_t size);
 
 /* Rewrites the message in fewest-packet form and answers its new length in words. Refusals: the check's alone, as no message needs

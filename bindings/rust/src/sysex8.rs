@@ -21,12 +21,14 @@ use crate::packet::Kind;
 /// ```
 pub const EMPTY: [u32; 4] = [0x5001_0000, 0, 0, 0];
 
-/// The words that the fewest-packet form of a payload of `size` bytes takes.
+/// The words that the fewest-packet form of a payload of `size` bytes takes: four for each packet. That is one packet if there are no
+/// bytes, else `size` over 13, rounded up. The largest sizes are answered with the exact number too.
 ///
 /// ```
 /// use latchbeacon::sysex8::words_needed;
 ///
 /// assert_eq!([0, 13, 14, 26, 27].map(words_needed), [4, 4, 8, 8, 12]);
+/// assert_eq!(words_needed(usize::MAX), 4 * usize::MAX.div_ceil(13));
 /// ```
 pub fn words_needed(size: usize) -> usize {
     ffi::sysex8_words_needed(size)

@@ -237,8 +237,10 @@ fn a_million_clock_bytes() {
 #[test]
 fn words_for_payloads() {
     assert_eq!([0, 13, 14, 26, 27].map(sysex8::words_needed), [4, 4, 8, 8, 12]);
-    assert_eq!(sysex8::words_needed(53_248), 16_384);
-    assert_eq!(sysex8::words_needed(usize::MAX), usize::MAX.div_ceil(13) * 4);
+    assert_eq!([53_248, 53_249].map(sysex8::words_needed), [16_384, 16_388]);
+    for size in (0..2_000).chain(usize::MAX - 2_000..=usize::MAX) {
+        assert_eq!(sysex8::words_needed(size), 4 * size.div_ceil(13).max(1), "{size}");
+    }
     let mut words = vec![0; 16_384];
     words[..4].copy_from_slice(&sysex8::EMPTY);
     let mut message = Message::check(&mut words, 4).unwrap();

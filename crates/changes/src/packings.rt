@@ -124,7 +124,7 @@ fn takes(size: usize, words: usize) -> bool {
     splice::sysex8::words_needed(size) == words
 }
 
-// Words for 0, 13, 14, 26, 27 bytes: 4, 4, 8, 8, 12.
+// Words for 0, 13, 14, 26, 27 bytes: 4, 4, 8, 8, 12. A size is no more than 64 bits hold: where 12 more would be too many, and the largest.
 pub(crate) fn words_needed() -> bool {
     if !takes(0, 4) {
         return false;
@@ -138,7 +138,13 @@ pub(crate) fn words_needed() -> bool {
     if !takes(26, 8) {
         return false;
     }
-    takes(27, 12)
+    if !takes(27, 12) {
+        return false;
+    }
+    if !takes(0xFFFF_FFFF_FFFF_FFF4, 5675921253449092804) {
+        return false;
+    }
+    takes(0xFFFF_FFFF_FFFF_FFFF, 5675921253449092808)
 }
 
 // 53,248 bytes fit 16,384 words, 53,249 never do.

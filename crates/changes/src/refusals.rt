@@ -67,7 +67,7 @@ pub(crate) fn packing() {
 }
 
 // A splice is refused with this number and place 0.
-fn is_refused(spliced: Spliced, number: u8) -> bool {
+fn splice_refused(spliced: Spliced, number: u8) -> bool {
     let Spliced::Refused(fault) = spliced else {
         return false;
     };
@@ -78,7 +78,7 @@ fn is_refused(spliced: Spliced, number: u8) -> bool {
 fn splice_keeps(from: usize, to: usize, number: u8) -> bool {
     let mut words = [0x5203_0741u32, 0x4200_0000, 0, 0];
     let spliced = splice::sysex8::splice(&mut words, 4, from, to, &[7; 14]);
-    if !is_refused(spliced, number) {
+    if !splice_refused(spliced, number) {
         return false;
     }
     same_words(&words, &[0x5203_0741, 0x4200_0000, 0, 0])
@@ -88,7 +88,7 @@ fn splice_keeps(from: usize, to: usize, number: u8) -> bool {
 fn setting_keeps() -> bool {
     let mut words = [0x5203_0741u32, 0x4200_0000, 0, 0];
     let spliced = splice::sysex8::set_payload(&mut words, 4, &[7; 14]);
-    if !is_refused(spliced, 14) {
+    if !splice_refused(spliced, 14) {
         return false;
     }
     same_words(&words, &[0x5203_0741, 0x4200_0000, 0, 0])

@@ -11,7 +11,7 @@ use lib.ListN.{length, getD, drop, length-drop}
 use lib.Seq.{length-take-le}
 use borrow.Author.Tests.{ltb-false, le-ltb, eq-eqb}
 use Rattle.refusal.specs.Answer.{gives, refused, pass, _▷_, guard}
-use Rattle.refusal.proofs.Laws.{writes-given, writes-refused, guard-passed}
+use Rattle.refusal.proofs.Laws.{writes-given, writes-refused, guard-passed, pass-both}
 use Rattle.ump.specs.Word.{octets, Below}
 use Rattle.ump.specs.Packet.{Shape, groupAt, idAt}
 use Rattle.ump.specs.Packing.{wordsFor}
@@ -25,7 +25,6 @@ use Rattle.ump.specs.Origin.{Origin, originIn, origin, octetFrom, Traced}
 use Rattle.ump.specs.Limits.{mostBytes, Dense}
 use Rattle.ump.proofs.Words.{below-take, below-drop}
 use Rattle.ump.proofs.Sizes.{words-mono}
-use Rattle.ump.proofs.Checks.{pass-both}
 use Rattle.ump.proofs.Splicing.{below-payload}
 use Rattle.ump.proofs.Counting.{total-front}
 use Rattle.ump.proofs.Demand.{never-more-bytes, same-message, rewritten-is-fewest}

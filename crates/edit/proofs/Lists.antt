@@ -1,14 +1,14 @@
 -- A list of edits lent as numbers, passed one by one. Assumes nothing.
-use mathlib.Core.Path.{_≡_, refl, sym, ap, _∙_}
-use mathlib.Core.Bool.{Bool, true, false, not, _||_}
+use mathlib.Core.Path.{_≡_, sym, ap, _∙_}
+use mathlib.Core.Bool.{true, false, not, _||_}
 use mathlib.Core.List.{List, _∷_}
 use Prim.Native.Nat.{ℕ, zero, suc, _+_, _-_, _/_, _%_, _≤_, _<_}
 use native.Mathlib.Omega.{arith}
 use lib.Dec.{eqb, ltb}
 use lib.ListN.{length}
 use borrow.Author.Tests.{le-ltb, lt-ltb, ltb-false, eq-eqb, ne-eqb, eqb-true, not-false}
-use Rattle.refusal.specs.Answer.{Answer, gives, refused, _▷_, guard}
-use Rattle.refusal.proofs.Laws.{never-refused}
+use Rattle.refusal.specs.Answer.{gives, refused, _▷_, guard}
+use Rattle.refusal.proofs.Laws.{guard-passed, pass-both, given-passes}
 use Rattle.ump.specs.Edits.{Edit, badEdit, lengths, someBad, someOverlap, perEdit, editIn, editsOf, badList}
 use Rattle.ump.proofs.Checks.{or-left, or-right}
 use Rattle.splice.specs.Merging.{widths}
@@ -171,21 +171,18 @@ pub record Passing (n bytes : ℕ) (numbers : List ℕ) (size : ℕ) : Type 0 wh
   pub apart : someOverlap 0 (editsOf numbers) ≡ false
   pub sized : sizeAfter n (editsOf numbers) ≡ size
 
-guard-pass : (b : Bool) (number : ℕ) (answer : Answer ℕ) {size : ℕ} → guard b number 0 ▷ answer ≡ gives size → (b ≡ false) × (answer ≡ gives size)
-guard-pass true number answer e = never-refused e
-guard-pass false number answer e = (refl, e)
-
 pub list-passes : (n bytes : ℕ) (numbers : List ℕ) {size : ℕ} → listed n bytes numbers ≡ gives size → Passing n bytes numbers size
 unfolding listed
 list-passes n bytes numbers e =
-    let given : Answer ℕ = gives (sizeAfter n (editsOf numbers)) in
-    let range = guard-pass (badList n bytes numbers) 13 (guard (someOverlap 0 (editsOf numbers)) 20 0 ▷ given) e in
-    let all = list-good n bytes numbers (range .0) in
-    let overlap = guard-pass (someOverlap 0 (editsOf numbers)) 20 given (range .1) in
+    let overlap = guard (someOverlap 0 (editsOf numbers)) 20 0 in
+    let range = pass-both (guard (badList n bytes numbers) 13 0) (overlap ▷ gives (sizeAfter n (editsOf numbers))) e in
+    let last = given-passes overlap (range .1) in
+    let fine = guard-passed (badList n bytes numbers) 13 0 (range .0) in
+    let all = list-good n bytes numbers fine in
     record {
-      fine = range .0;
+      fine = fine;
       good = all .0;
       all-bytes = all .1;
-      apart = overlap .0;
-      sized = (cc);
+      apart = guard-passed (someOverlap 0 (editsOf numbers)) 20 0 (last .0);
+      sized = last .1;
     }

@@ -1,7 +1,14 @@
 -- Any two outcomes that a promise allows are equal: the answer, and what is lent for writing as it is after the call. Assumes nothing.
-use mathlib.Core.Path.{sym, _∙_}
+use mathlib.Core.Path.{_≡_, sym, _∙_}
+use Prim.Native.Nat.{ℕ}
+use contract.Lifetimes.{Lfts}
+use denote.Triple.Clauses.{AtExit}
+use borrow.Fn.Kinds.{endedOf}
 use Rattle.refusal.specs.Tight.{FixesResult, FixesOutcome}
 use Rattle.refusal.proofs.Tight.{both-fixed}
+use Rattle.ump.specs.Packet.{sysex8}
+use Rattle.ump.specs.Withdrawn.{wordsBefore}
+use Rattle.ump.proofs.Withdrawn.{words-as-before}
 use Rattle.latchbeacon.proofs.fields.latchbeacon_bit.Kinds as bit-kinds
 use Rattle.latchbeacon.proofs.fields.latchbeacon_bit.Reads as bit
 use Rattle.latchbeacon.proofs.fields.latchbeacon_set_bit.Kinds as set-bit-kinds
@@ -166,6 +173,10 @@ sysex8-set-byte-unique κs a x y s t p q = both-fixed (λ r. r) (λ r r′ e. e)
 
 sysex8-words-needed-unique : FixesResult 0 sysex8-words-needed-kinds.ps sysex8-words-needed-kinds.r sysex8-words-needed.Post
 sysex8-words-needed-unique κs a x y s t p q = p ∙ sym q
+
+-- and it is the number of the original's three branches (document 02, T-03)
+sysex8-words-needed-as-before : (κs : Lfts 0) (size words : ℕ) (s : AtExit (endedOf 0 sysex8-words-needed-kinds.ps sysex8-words-needed-kinds.r) κs) → sysex8-words-needed.Post κs (size, tt) words s → words ≡ wordsBefore sysex8 size
+sysex8-words-needed-as-before κs size words s p = p ∙ words-as-before sysex8 size
 
 sysex8-repack-unique : FixesOutcome 1 sysex8-repack-kinds.ps sysex8-repack-kinds.r sysex8-repack.Post (λ κs s. s .0 .now)
 sysex8-repack-unique κs a x y s t p q = both-fixed (λ r. r) (λ r r′ e. e) p q

@@ -6,7 +6,7 @@ use lib.Dec.{T, eqb}
 use Rattle.refusal.specs.Tight.{Shuts}
 use Rattle.refusal.proofs.Tight.{differ}
 use Rattle.ump.specs.Packet.{sizeOf}
-use Rattle.ump.specs.Packing.{statusFor}
+use Rattle.ump.specs.Packing.{statusFor, packetsFor}
 use Rattle.layout.proofs.type_of.Reads as type-of
 use Rattle.layout.proofs.group_of.Reads as group-of
 use Rattle.layout.proofs.status_of.Reads as status-of
@@ -21,6 +21,8 @@ use Rattle.layout.proofs.with_id.Reads as with-id
 use Rattle.layout.proofs.status_for.Reads as status-for
 use Rattle.layout.proofs.sysex8_size.Reads as sysex8-size
 use Rattle.layout.proofs.sysex7_size.Reads as sysex7-size
+use Rattle.layout.proofs.sysex8_packets.Reads as sysex8-packets
+use Rattle.layout.proofs.sysex7_packets.Reads as sysex7-packets
 
 wrong : {x y : ℕ} → T (not (eqb x y)) → x ≡ y → ⊥
 wrong t e = differ (λ v. v) t e
@@ -35,7 +37,7 @@ sample = 0x5A3E81FF
 -- significant end (low), none past the third (past); set, with the other octets lost (other). A group put over the type (type), or one
 -- that is too big carried into it (past). An id in octet 3 (next), or octet 3 lost (other). Of a packet that stands alone, start (alone),
 -- of one past the last, end (past). The bytes of a count: as many in SysEx8 (count), one fewer in SysEx7 (less), some for a count out of
--- range (past).
+-- range (past). Packets: rounded down (down), one more behind full ones (more), none for no bytes (none).
 record ShutOut : Type 0 where
   type-of-low : Shuts type-of.Post (sample, tt) 15
   type-of-octet : Shuts type-of.Post (sample, tt) 0x5A
@@ -65,9 +67,15 @@ record ShutOut : Type 0 where
   sysex8-size-past : Shuts sysex8-size.Post (15, tt) 14
   sysex7-size-less : Shuts sysex7-size.Post (6, tt) 5
   sysex7-size-past : Shuts sysex7-size.Post (7, tt) 6
+  sysex8-packets-down : Shuts sysex8-packets.Post (14, tt) 1
+  sysex8-packets-more : Shuts sysex8-packets.Post (13, tt) 2
+  sysex8-packets-none : Shuts sysex8-packets.Post (0, tt) 0
+  sysex7-packets-down : Shuts sysex7-packets.Post (7, tt) 1
+  sysex7-packets-more : Shuts sysex7-packets.Post (6, tt) 2
+  sysex7-packets-none : Shuts sysex7-packets.Post (0, tt) 0
 
 shut-out : ShutOut
-unfolding statusFor sizeOf
+unfolding statusFor sizeOf packetsFor
 shut-out = record {
   type-of-low = λ κs s p. wrong tt p;
   type-of-octet = λ κs s p. wrong tt p;
@@ -97,4 +105,10 @@ shut-out = record {
   sysex8-size-past = λ κs s p. wrong tt p;
   sysex7-size-less = λ κs s p. wrong tt p;
   sysex7-size-past = λ κs s p. wrong tt p;
+  sysex8-packets-down = λ κs s p. wrong tt p;
+  sysex8-packets-more = λ κs s p. wrong tt p;
+  sysex8-packets-none = λ κs s p. wrong tt p;
+  sysex7-packets-down = λ κs s p. wrong tt p;
+  sysex7-packets-more = λ κs s p. wrong tt p;
+  sysex7-packets-none = λ κs s p. wrong tt p;
 }

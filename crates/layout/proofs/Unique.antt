@@ -29,6 +29,10 @@ use Rattle.layout.proofs.sysex8_size.Kinds as sysex8-size-kinds
 use Rattle.layout.proofs.sysex8_size.Reads as sysex8-size
 use Rattle.layout.proofs.sysex7_size.Kinds as sysex7-size-kinds
 use Rattle.layout.proofs.sysex7_size.Reads as sysex7-size
+use Rattle.layout.proofs.sysex8_packets.Kinds as sysex8-packets-kinds
+use Rattle.layout.proofs.sysex8_packets.Reads as sysex8-packets
+use Rattle.layout.proofs.sysex7_packets.Kinds as sysex7-packets-kinds
+use Rattle.layout.proofs.sysex7_packets.Reads as sysex7-packets
 
 type-of-unique : FixesResult 0 type-of-kinds.ps type-of-kinds.r type-of.Post
 type-of-unique κs a x y s t p q = p ∙ sym q
@@ -71,3 +75,9 @@ sysex8-size-unique κs a x y s t p q = p ∙ sym q
 
 sysex7-size-unique : FixesResult 0 sysex7-size-kinds.ps sysex7-size-kinds.r sysex7-size.Post
 sysex7-size-unique κs a x y s t p q = p ∙ sym q
+
+sysex8-packets-unique : FixesResult 0 sysex8-packets-kinds.ps sysex8-packets-kinds.r sysex8-packets.Post
+sysex8-packets-unique κs a x y s t p q = p ∙ sym q
+
+sysex7-packets-unique : FixesResult 0 sysex7-packets-kinds.ps sysex7-packets-kinds.r sysex7-packets.Post
+sysex7-packets-unique κs a x y s t p q = p ∙ sym q

@@ -1,10 +1,10 @@
 // The layout of packets in words, each thing once: the fields of a first word, words and octets, the status by place, the bytes that a
-// count carries, and the limits. Each call is total.
+// count carries, the packets that a payload takes, and the limits. Each public call is total.
 ghost use mathlib.Core.Path.{_≡_};
-ghost use Prim.Native.Nat.{_+_, _*_, _%_};
+ghost use Prim.Native.Nat.{_+_, _*_, _%_, _<_};
 ghost use Rattle.ump.specs.Word.{nibble, octet, word as wordOf, octetField, shift, withPart};
-ghost use Rattle.ump.specs.Packet.{sysex8, sysex7, sizeOf};
-ghost use Rattle.ump.specs.Packing.{statusFor};
+ghost use Rattle.ump.specs.Packet.{Shape, sysex8, sysex7, sizeOf};
+ghost use Rattle.ump.specs.Packing.{statusFor, packetsFor};
 ghost use Rattle.ump.specs.Single.{withGroup};
 ghost use Rattle.ump.specs.Setters.{withId};
 
@@ -136,4 +136,27 @@ pub fn sysex7_size(count: usize) -> usize
         0..=6 => count,
         _ => 0,
     }
+}
+
+// The packets of the fewest-packet form of `size` bytes at `room` bytes to a packet: one if there are none, else the bytes over the room,
+// rounded up. The promise holds of every shape with this room.
+fn packets_for(size: usize, room: usize) -> usize
+    requires { ⌜ 0 < room ⌝ }
+    ensures { λ r. ⌜ ((shape : Shape) → shape .room ≡ room → r ≡ packetsFor shape size) ⌝ }
+{
+    if size == 0 { 1 } else { (size - 1) / room + 1 }
+}
+
+// The packets, of four words each, that the fewest-packet form of a SysEx8 payload of `size` bytes takes.
+pub fn sysex8_packets(size: usize) -> usize
+    ensures { λ r. ⌜ r ≡ packetsFor sysex8 size ⌝ }
+{
+    packets_for(size, 13)
+}
+
+// The packets, of two words each, that the fewest-packet form of a SysEx7 payload of `size` bytes takes.
+pub fn sysex7_packets(size: usize) -> usize
+    ensures { λ r. ⌜ r ≡ packetsFor sysex7 size ⌝ }
+{
+    packets_for(size, 6)
 }

@@ -1,4 +1,3 @@
-pub mod Lengths
 pub mod Shifts
 pub mod Sums
 pub mod Bodies

@@ -2,13 +2,14 @@
 use mathlib.Core.Path.{_≡_, refl, sym, ap, _∙_}
 use mathlib.Core.Bool.{Bool}
 use mathlib.Core.List.{List, _∷_}
-use Prim.Native.Nat.{ℕ, suc, _+_, _-_, _*_, _/_, _%_, _^_, _≤_, _<_}
+use Prim.Native.Nat.{ℕ, _+_, _-_, _*_, _/_, _%_, _^_, _≤_, _<_}
 use native.Mathlib.Omega.{arith}
 use lib.ListN.{length, getD, take, drop}
 use Rattle.ump.specs.Limits.{mostWords, mostBytes}
 use Rattle.ump.specs.Word.{Below}
 use Rattle.ump.specs.Packet.{sysex8}
-use Rattle.ump.specs.Packing.{packetsFor}
+use Rattle.ump.specs.Packing.{packetsFor, wordsFor}
+use Rattle.ump.proofs.Sizes.{packets-enough}
 use Rattle.ump.specs.Edits.{editIn, editsOf, perEdit}
 use Rattle.ump.proofs.First.{Side, under, over, side}
 use Rattle.flow.specs.Digits.{val}
@@ -19,10 +20,9 @@ use Rattle.flow.proofs.Poured.{flow-end, flow-agree}
 use Rattle.merge.specs.Thirteens.{number, body, frontOf}
 use Rattle.merge.specs.Pieces.{waiting, taken, Flows, Runs, Goes, Given, Kept, Stands, Moved, Flushed}
 use Rattle.merge.specs.declared.merging.Step as code
-use Rattle.merge.specs.Pass.{Step, stepMeaning, stepOf, merged, beginOf, Turns, packets, Merges, Steady}
+use Rattle.merge.specs.Pass.{Step, stepMeaning, stepOf, merged, beginOf, Turns, Merges, Steady}
 use Rattle.merge.specs.declared.thirteen.Thirteen.{Thirteen}
 use Rattle.merge.specs.declared.pending.Pending.{Pending}
-use Rattle.merge.proofs.Lengths.{packets-number}
 use Rattle.merge.proofs.Bodies.{below-body, body-fits, body-agree, body-of-number, body-injective}
 use Rattle.merge.proofs.Parts.{front-part}
 use Rattle.merge.proofs.Keeping.{slice-alike}
@@ -72,8 +72,8 @@ pub record Pass (w : List ℕ) (head size total lag : ℕ) (numbers bytes : List
   pub behind : 13 * first ≤ at
   pub below : Below 256 (merged shrunk grow 0 (editsOf numbers) source bytes)
   pub long : length (merged shrunk grow 0 (editsOf numbers) source bytes) ≡ total
-  pub room : 4 * packets total ≤ length w
-  pub top : 4 * (packets size + lag) ≤ length w
+  pub room : wordsFor sysex8 total ≤ length w
+  pub top : 4 * (packetsFor sysex8 size + lag) ≤ length w
   pub small : length w ≤ mostWords
   pub free : head ≤ 4294967040
   pub flows : Flows w (merged shrunk grow 0 (editsOf numbers) source bytes) head flow words
@@ -91,22 +91,19 @@ pub record Edited (size total given at m start : ℕ) (s : code.Step) (supply : 
   pub supplied : start + supply ≤ given
 
 -- plain numbers
-room-number : (m n total room : ℕ) → m + n ≤ total → 4 * suc ((total - 1) / 13) ≤ room → 4 * ((m + n) / 13) ≤ room
-room-number m n total room h l =
-    let e : (m + n) / 13 ≤ total / 13 = omega arith in
-    let f : total / 13 ≤ suc ((total - 1) / 13) = omega arith in
-    omega arith
+room-number : (m n total room : ℕ) → m + n ≤ total → wordsFor sysex8 total ≤ room → 4 * ((m + n) / 13) ≤ room
+room-number m n total room h l = omega (arith, packets-enough sysex8 total)
 
-top-number : (to size lag room : ℕ) → to ≤ size → 4 * (suc ((size - 1) / 13) + lag) ≤ room → 4 * ((to + 12) / 13 + lag) ≤ room
-top-number to size lag room h l =
-    let e : (to + 12) / 13 ≤ suc ((size - 1) / 13) = omega arith in
-    omega arith
+top-number : (to size lag room : ℕ) → to ≤ size → 4 * (packetsFor sysex8 size + lag) ≤ room → 4 * ((to + 12) / 13 + lag) ≤ room
+top-number to size lag room h l = omega (arith, packets-enough sysex8 size)
 
-pub next-number : (next size lag room : ℕ) → next ≤ size → 4 * (suc ((size - 1) / 13) + lag) ≤ room → room ≤ mostWords → (next / 13 + lag < 65536) × (0 < next % 13 → 4 * (next / 13 + lag) + 4 ≤ room)
+pub next-number : (next size lag room : ℕ) → next ≤ size → 4 * (packetsFor sysex8 size + lag) ≤ room → room ≤ mostWords → (next / 13 + lag < 65536) × (0 < next % 13 → 4 * (next / 13 + lag) + 4 ≤ room)
 next-number next size lag room h l s =
-    let e : next / 13 ≤ suc ((size - 1) / 13) = omega arith in
-    let f : 0 < next % 13 → next / 13 < suc ((size - 1) / 13) = λ i. omega arith in
-    (omega arith, λ i. omega (arith, f i))
+    let e = packets-enough sysex8 size in
+    (omega arith, λ i. omega arith)
+
+pub size-number : (k size lag room : ℕ) → k ≤ size → 4 * (packetsFor sysex8 size + lag) ≤ room → room ≤ mostWords → k ≤ mostBytes
+size-number k size lag room h l s = omega (arith, packets-enough sysex8 size)
 
 module _ {w : List ℕ} {head size total lag : ℕ} {numbers bytes : List ℕ} {shrunk grow : Bool} {source words : List ℕ} {at : ℕ} {flow : Pending} {hand : Thirteen} {end start index : ℕ}
     (p : Pass w head size total lag numbers bytes shrunk grow source words at flow hand end start index) where
@@ -195,10 +192,7 @@ module _ {w : List ℕ} {head size total lag : ℕ} {numbers bytes : List ℕ} {
 
     -- what its step asks
     pub edit-asks : (end ≤ editIn numbers index .from) × ((editIn numbers index .from ≤ editIn numbers index .to) × (stepOf shrunk grow end (editIn numbers index) .kept ≤ mostBytes))
-    edit-asks = (now .after, (now .forward, few (stepOf shrunk grow end (editIn numbers index) .kept) size lag (length w) (omega (arith, now .read)) (p .top) (p .small)))
-      where
-        few : (k size lag room : ℕ) → k ≤ size → 4 * (suc ((size - 1) / 13) + lag) ≤ room → room ≤ mostWords → k ≤ mostBytes
-        few k size lag room h l s = omega arith
+    edit-asks = (now .after, (now .forward, size-number (stepOf shrunk grow end (editIn numbers index) .kept) size lag (length w) (omega (arith, now .read)) (p .top) (p .small)))
 
     module _ (s : code.Step) (e : stepMeaning s ≡ stepOf shrunk grow end (editIn numbers index)) where
       kept-is : stepOf shrunk grow end (editIn numbers index) .kept ≡ s .kept
@@ -290,15 +284,12 @@ module _ {w : List ℕ} {head size total lag : ℕ} {numbers bytes : List ℕ} {
     end-keeps = (left .read, pass-keeps size (omega arith) (omega (arith, left .written)) end-kept)
 
     -- and what waits is written
-    pub end-poured : {us vs : List ℕ} {one : Pending} (needed : ℕ) → Goes (Kept head lag at size (number hand) (taken flow)) words us head flow (size - at) one → needed ≡ packets total → Flushed us head one needed vs
-        → Poured sysex8 w target head (packets total) vs
+    pub end-poured : {us vs : List ℕ} {one : Pending} (needed : ℕ) → Goes (Kept head lag at size (number hand) (taken flow)) words us head flow (size - at) one → needed ≡ packetsFor sysex8 total → Flushed us head one needed vs
+        → Poured sysex8 w target head (packetsFor sysex8 total) vs
     end-poured {us} {vs} {one} needed g e f =
         let flows-one = g .flows w target (p .flows) (p .below) (omega (arith, p .long, left .written)) end-kept in
         let all : 13 * one .packet + one .count ≡ length target = omega (arith, g .more, left .written, p .long) in
-        flow-end flows-one all (packets total) (packets-are (p .long)) vs (rw e at (f .some)) (rw e at (f .none))
-      where
-        packets-are : {n : ℕ} → n ≡ total → packets total ≡ packetsFor sysex8 n
-        packets-are e = rw e (sym (packets-number total))
+        flow-end flows-one all (packetsFor sysex8 total) (ap (packetsFor sysex8) (sym (p .long))) vs (rw e at (f .some)) (rw e at (f .none))
 
 -- ---- how a pass begins
 
@@ -322,12 +313,9 @@ module _ {ws : List ℕ} {head size total : ℕ} {numbers bytes : List ℕ} {shr
   begin-front = take-begin shrunk grow source bytes size numbers (omega (arith, m .sized, begin-inside))
 
   -- what stands before the first edit
-  module _ {us : List ℕ} {lag : ℕ} (moved : Moved ws head (b / 13) (packets size) lag us) (flow : Pending) (waits : waiting flow ≡ frontOf (val 13 (body ws (b / 13))) (b % 13)) where
-    reach : length source ≤ 13 * packets size
-    reach = fits size (length source) (m .sized)
-      where
-        fits : (size n : ℕ) → size ≡ n → n ≤ 13 * suc ((size - 1) / 13)
-        fits size n e = omega arith
+  module _ {us : List ℕ} {lag : ℕ} (moved : Moved ws head (b / 13) (packetsFor sysex8 size) lag us) (flow : Pending) (waits : waiting flow ≡ frontOf (val 13 (body ws (b / 13))) (b % 13)) where
+    reach : length source ≤ 13 * packetsFor sysex8 size
+    reach = omega (arith, packets-enough sysex8 size, m .sized)
 
     front-words : (k : ℕ) → k < 4 * (b / 13) → getD us k 0 ≡ flowWord sysex8 head new k
     front-words k l =
@@ -354,19 +342,19 @@ module _ {ws : List ℕ} {head size total : ℕ} {numbers bytes : List ℕ} {shr
         let same : take c (drop (13 * q) new) ≡ take c (drop (13 * q) source) = rw zeros at (slice-alike 0 0 b (13 * q) c new source begin-front (omega arith)) in
         waits ∙ front-part (body ws q) c (below-body ws q) (omega arith) ∙ ap (val 13) (part ∙ sym same)
 
-    pub pass-begins : (hand : Thirteen) → flow .count ≡ b % 13 → flow .packet ≡ b / 13 → flow .high < 2 ^ 40 → lag ≡ packets total - packets size → Below 256 bytes → hand .high < 2 ^ 40
+    pub pass-begins : (hand : Thirteen) → flow .count ≡ b % 13 → flow .packet ≡ b / 13 → flow .high < 2 ^ 40 → lag ≡ packetsFor sysex8 total - packetsFor sysex8 size → Below 256 bytes → hand .high < 2 ^ 40
         → (0 < b % 13 → number hand ≡ val 13 (body us (b / 13 + lag))) → Pass us head size total lag numbers bytes shrunk grow source us b flow hand b 0 0
     pass-begins hand count packet fits lag-is below in-hand held =
         let e : taken flow ≡ b = omega (arith, count, packet) in
         record {
           first = b / 13;
-          stands = moved-stands ws us source head (packets size) lag (b / 13) (m .stands) moved (m .plain) reach;
+          stands = moved-stands ws us source head (packetsFor sysex8 size) lag (b / 13) (m .stands) moved (m .plain) reach;
           sized = m .sized;
           behind = omega arith;
           below = below-merged 256 shrunk grow 0 (editsOf numbers) source bytes (m .below) below;
-          long = length-all shrunk grow size (packets total - packets size) total numbers source bytes (m .turns) (m .sized);
+          long = length-all shrunk grow size (packetsFor sysex8 total - packetsFor sysex8 size) total numbers source bytes (m .turns) (m .sized);
           room = rw (moved .long) (m .needed);
-          top = rw (moved .long) (tops (packets size) (packets total) lag (length ws) lag-is (m .held) (m .needed));
+          top = rw (moved .long) (tops (packetsFor sysex8 size) (packetsFor sysex8 total) lag (length ws) lag-is (m .held) (m .needed));
           small = rw (moved .long) (m .small);
           free = m .free;
           flows = rw (count, packet) (record { long = refl; few = omega arith; done = front-words; rest = λ k l. refl; waits = front-waits });
@@ -381,18 +369,20 @@ module _ {ws : List ℕ} {head size total : ℕ} {numbers bytes : List ℕ} {shr
         tops held needed lag room e h l = omega arith
 
   -- by the numbers that the code has of them
-  pub pass-starts : {us : List ℕ} {lag : ℕ} (at held : ℕ) → at ≡ b → held ≡ packets size → Moved ws head (at / 13) held lag us → (flow : Pending) → waiting flow ≡ frontOf (val 13 (body ws (at / 13))) (at % 13)
-      → (hand : Thirteen) → flow .count ≡ at % 13 → flow .packet ≡ at / 13 → flow .high < 2 ^ 40 → lag ≡ packets total - packets size → Below 256 bytes → hand .high < 2 ^ 40
+  pub pass-starts : {us : List ℕ} {lag : ℕ} (at held : ℕ) → at ≡ b → held ≡ packetsFor sysex8 size → Moved ws head (at / 13) held lag us → (flow : Pending) → waiting flow ≡ frontOf (val 13 (body ws (at / 13))) (at % 13)
+      → (hand : Thirteen) → flow .count ≡ at % 13 → flow .packet ≡ at / 13 → flow .high < 2 ^ 40 → lag ≡ packetsFor sysex8 total - packetsFor sysex8 size → Below 256 bytes → hand .high < 2 ^ 40
       → (0 < at % 13 → number hand ≡ val 13 (body us (at / 13 + lag))) → Pass us head size total lag numbers bytes shrunk grow source us at flow hand at 0 0
   pass-starts at held at-is held-is moved flow waits hand count packet fits lag-is below in-hand held-hand =
       rw at-is
       (pass-begins (rw (at-is, held-is) at moved) flow (rw at-is at waits) hand (rw at-is at count) (rw at-is at packet) fits lag-is below in-hand (rw at-is at held-hand))
 
-  pub begin-asks : (at held lag : ℕ) → at ≡ b → held ≡ packets size → lag ≡ packets total - packets size → Asks at held lag (length ws)
-  begin-asks at held lag e h l = go size (packets total) (length ws) (rw e begin-inside) (m .held) (m .needed) (m .small) h l
+  pub begin-asks : (at held lag : ℕ) → at ≡ b → held ≡ packetsFor sysex8 size → lag ≡ packetsFor sysex8 total - packetsFor sysex8 size → Asks at held lag (length ws)
+  begin-asks at held lag e h l =
+      let enough : size ≤ 13 * held = rw h (packets-enough sysex8 size) in
+      go (packetsFor sysex8 total) (length ws) (omega (arith, enough, e, begin-inside)) (rw h (m .held)) (m .needed) (m .small) (rw h l)
     where
-      go : (size needed room : ℕ) → at ≤ size → 4 * suc ((size - 1) / 13) ≤ room → 4 * needed ≤ room → room ≤ mostWords → held ≡ suc ((size - 1) / 13) → lag ≡ needed - suc ((size - 1) / 13) → Asks at held lag room
-      go size needed room low a b c h l =
+      go : (needed room : ℕ) → at ≤ 13 * held → 4 * held ≤ room → 4 * needed ≤ room → room ≤ mostWords → lag ≡ needed - held → Asks at held lag room
+      go needed room low a b c l =
           let t : 4 * (held + lag) ≤ room = omega arith in
           let u : at / 13 ≤ held = omega arith in
           let v : 0 < at % 13 → at / 13 < held = λ i. omega arith in

@@ -2,12 +2,13 @@
 use mathlib.Core.Path.{_≡_}
 use mathlib.Core.Bool.{Bool, cond, not}
 use mathlib.Core.List.{List, [], _∷_, _++_}
-use Prim.Native.Nat.{ℕ, suc, _+_, _-_, _*_, _/_, _%_, _≤_, _<_}
+use Prim.Native.Nat.{ℕ, _+_, _-_, _*_, _/_, _%_, _≤_, _<_}
 use lib.Dec.{ltb}
 use lib.ListN.{length, take, drop, getD}
 use Rattle.ump.specs.Word.{Below}
 use Rattle.ump.specs.Limits.{mostWords, mostBytes}
 use Rattle.ump.specs.Packet.{sysex8}
+use Rattle.ump.specs.Packing.{packetsFor, wordsFor}
 use Rattle.ump.specs.Edits.{Edit, editsOf}
 use Rattle.flow.specs.Digits.{val}
 use Rattle.flow.specs.Flowing.{Poured}
@@ -67,10 +68,6 @@ Turns shrunk grow size lag total given end at m start (edit ∷ edits) =
     × ((start + edit .length ≤ given) × Ahead size lag at m)))))
     × Turns shrunk grow size lag total given (edit .to) (at + step .kept + step .out) (m + step .kept + step .put) (start + edit .length) edits
 
--- packets of so many bytes, one for none
-abbrev pub packets : ℕ → ℕ
-packets n = suc ((n - 1) / 13)
-
 -- ---- the words
 
 -- a pass over the words can begin: a payload stands in them whose packets have one head, and there is room
@@ -78,10 +75,10 @@ pub record Merges (words : List ℕ) (head size total : ℕ) (numbers bytes : Li
   pub sized : size ≡ length source
   pub stands : Stands words source head 0 0
   pub below : Below 256 source
-  pub turns : Turns shrunk grow size (packets total - packets size) total (length bytes)
+  pub turns : Turns shrunk grow size (packetsFor sysex8 total - packetsFor sysex8 size) total (length bytes)
       (beginOf numbers size) (beginOf numbers size) (beginOf numbers size) 0 (editsOf numbers)
-  pub held : 4 * packets size ≤ length words
-  pub needed : 4 * packets total ≤ length words
+  pub held : wordsFor sysex8 size ≤ length words
+  pub needed : wordsFor sysex8 total ≤ length words
   pub small : length words ≤ mostWords
   pub free : head ≤ 4294967040
   pub plain : head % 256 ≡ 0
@@ -94,7 +91,7 @@ pub record Begins (words : List ℕ) (head size total : ℕ) (numbers bytes : Li
 abbrev pub Ends : List ℕ → ℕ → ℕ → ℕ → List ℕ → List ℕ → Bool → Bool → List ℕ → Type 0
 Ends words head size total numbers bytes shrunk grow words′ =
     (source : List ℕ) → Merges words head size total numbers bytes shrunk grow source
-    → Poured sysex8 words (merged shrunk grow 0 (editsOf numbers) source bytes) head (packets total) words′
+    → Poured sysex8 words (merged shrunk grow 0 (editsOf numbers) source bytes) head (packetsFor sysex8 total) words′
 
 -- the packet of byte `next` is in hand, if that of `at` was
 pub record Steady (words : List ℕ) (hand at next lag : ℕ) (coming : ℕ) : Type 0 where

@@ -8,7 +8,7 @@ use lib.Dec.{lit≤}
 use Rattle.ump.specs.Word.{octets}
 use Rattle.ump.specs.Edits.{Edit, editsFrom, editsOf}
 use Rattle.merge.specs.Thirteens.{body, frontOf, middleOf}
-use Rattle.merge.specs.Pass.{Step, stepOf, merged, beginOf, packets, Turns}
+use Rattle.merge.specs.Pass.{Step, stepOf, merged, beginOf, Turns}
 
 abbrev numbers8 : List ℕ
 numbers8 = 0 ∷ 1 ∷ 2 ∷ 2 ∷ 3 ∷ 0 ∷ []
@@ -24,7 +24,7 @@ abbrev pass8 : Bool → Bool → List ℕ → List ℕ
 pass8 shrunk grow source = merged shrunk grow 0 edits8 source (0xB0 ∷ 0xB1 ∷ [])
 
 pub record Samples : Type 0 where
-  pub numbers : (beginOf numbers8 3 ≡ 0) × (beginOf [] 3 ≡ 3) × (packets 0 ≡ 1) × (packets 13 ≡ 1) × (packets 14 ≡ 2)
+  pub numbers : (beginOf numbers8 3 ≡ 0) × (beginOf [] 3 ≡ 3)
   pub steps : (stepOf false true 0 (record { from = 0; to = 1; length = 2 }) ≡ step 0 1 2)
       × (stepOf false false 0 (record { from = 0; to = 1; length = 2 }) ≡ step 1 0 0)
       × (stepOf true true 1 (record { from = 2; to = 3; length = 0 }) ≡ step 1 0 0)
@@ -38,7 +38,7 @@ pub record Samples : Type 0 where
 pub samples : Samples
 unfolding beginOf stepOf merged Turns editsFrom octets
 samples = record {
-  numbers = (refl, refl, refl, refl, refl);
+  numbers = (refl, refl);
   steps = (refl, refl, refl);
   one-pass = refl;
   two-passes = (refl, refl);

@@ -9,7 +9,6 @@ ghost use Rattle.merge.specs.Thirteens.{number, body, frontOf};
 ghost use Rattle.merge.specs.Pieces.{waiting, Moved};
 ghost use Rattle.merge.specs.Pass.{Steady, isDue, stepOf, stepMeaning, beginOf, Begins, Ends};
 use super::numbers::over;
-use super::numbers::words_needed;
 use super::pending::Pending;
 use super::pending::flush;
 use super::pending::give;
@@ -154,8 +153,8 @@ pub fn merge(
         (now (words .exit)) ⌝ }
 {
     let count = numbers.len() / 3;
-    let held = words_needed(size) / 4;
-    let needed = words_needed(total) / 4;
+    let held = layout::sysex8_packets(size);
+    let needed = layout::sysex8_packets(total);
     let lag = over(needed, held);
     let mut at = begin_of(numbers, size);
     let mut flow = before(words, at);

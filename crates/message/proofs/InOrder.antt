@@ -10,13 +10,14 @@ use lib.Dec.{eqb, ltb}
 use lib.ListN.{length, getD}
 use borrow.Author.Tests.{eq-eqb, eqb-true, not-false, ltb-false}
 use Rattle.refusal.specs.Answer.{Verdict, gives, refused, pass, _▷_}
+use Rattle.refusal.proofs.Laws.{pass-both}
 use Rattle.ump.specs.Word.{nibble}
 use Rattle.ump.specs.Packet.{Shape, payload}
 use Rattle.ump.specs.Packing.{statusFor}
 use Rattle.ump.specs.Check.{badType, badStatus, badCount, badGroup, badId, statusNumber, checkPackets}
 use Rattle.ump.specs.Edits.{total}
 use Rattle.ump.proofs.Sizes.{status-inner, place-last}
-use Rattle.ump.proofs.Checks.{sweep-pass, pass-sweep, pass-both, both-pass, or-left, or-right}
+use Rattle.ump.proofs.Checks.{sweep-pass, pass-sweep, both-pass, or-left, or-right}
 use Rattle.ump.proofs.Counting.{total-const}
 use Rattle.ump.proofs.Moving.{total-ge}
 use Rattle.ump.proofs.Replace.{total-cong}

@@ -121,9 +121,12 @@ pub guard-passed : (b : Bool) (number place : ℕ) → guard b number place ≡ 
 guard-passed true number place e = never-refused e
 guard-passed false number place e = refl
 
+pub pass-both : {A : Type 0} (v : Verdict) (answer : Answer A) {value : A} → v ▷ answer ≡ gives value → (v ≡ pass) × (answer ≡ gives value)
+pass-both (gives u) answer e = (refl, e)
+pass-both (refused number place) answer e = never-refused e
+
 pub given-passes : {A : Type 0} (v : Verdict) {a b : A} → v ▷ gives a ≡ gives b → (v ≡ pass) × (a ≡ b)
-given-passes (gives u) e = (refl, cc)
-given-passes (refused n p) e = never-refused e
+given-passes v {a} e = let g = pass-both v (gives a) e in (g .0, let h = g .1 in cc)
 
 pub refused-by : {A : Type 0} (v : Verdict) (a : A) {n p : ℕ} → v ▷ gives a ≡ refused n p → v ≡ refused n p
 refused-by (gives u) a e = never-both e

@@ -14,7 +14,7 @@ use Rattle.ump.specs.Packing.{statusFor, frame, packsAt, packs, packetsFor, wor
 use Rattle.ump.specs.Limits.{mostWords}
 use Rattle.ump.specs.Check.{Valid, payloadOf}
 use Rattle.ump.specs.Splice.{stored, rewritten, Spliced, splice, setPayload}
-use Rattle.ump.proofs.Sizes.{words-mono}
+use Rattle.ump.proofs.Sizes.{packets-pos}
 use Rattle.ump.proofs.Packing.{length-pack}
 use Rattle.ump.proofs.Checks.{valid-passes}
 use Rattle.ump.proofs.Message.{payloadOf-pack, group-of-pack, id-of-pack, pack-valid}
@@ -51,7 +51,7 @@ unfolding packetsFor
 zero-words = refl
 
 pub words-four : (n : ℕ) → 4 ≤ wordsFor sysex8 n
-words-four n = omega (arith, words-mono sysex8 0 n (omega arith), zero-words)
+words-four n = omega (arith, packets-pos sysex8 n)
 
 module _ (group id : ℕ) (g : group < 16) (i : id < 256) (n : ℕ) (h : n ≤ mostWords) (bytes : List ℕ) (room : wordsFor sysex8 (length bytes) ≤ n) where
   abbrev message : List ℕ

@@ -6,13 +6,14 @@ use Prim.Native.Nat.{ℕ, _*_, _≤_, _<_}
 use native.Mathlib.Omega.{arith}
 use lib.ListN.{length, take}
 use lib.Seq.{length-take-le}
-use borrow.Author.Tests.{lt-ltb, le-ltb, ne-eqb}
+use borrow.Author.Tests.{lt-ltb, le-ltb}
 use Rattle.refusal.specs.Answer.{Answer, gives, refused}
 use Rattle.refusal.specs.Number.{numberOf}
 use Rattle.refusal.specs.declared.Refusal.{Refusal}
 use Rattle.refusal.specs.declared.Refusal.the-variants.{Range, Room}
 use Rattle.ump.specs.Packet.{sysex8}
-use Rattle.ump.specs.Packing.{packetsFor, wordsFor}
+use Rattle.ump.specs.Packing.{wordsFor}
+use Rattle.ump.proofs.Sizes.{packets-enough}
 use Rattle.ump.specs.Edits.{Patch, replaced}
 use Rattle.store.specs.Store.{dataIn, patchesIn}
 use Rattle.store.specs.Places.{nextAt, recordsFrom}
@@ -27,8 +28,7 @@ use Rattle.restore.specs.declared.restoring.Laid.the-variants as laid
 
 -- more bytes than a scratch has need more words than are lent, if it has 13 bytes for each 4 words
 pub over-room : (lent m n : ℕ) → 13 * lent ≤ 4 * m → m < n → lent < wordsFor sysex8 n
-unfolding packetsFor
-over-room lent m n h k = rw (ne-eqb n 0 (λ e. omega arith)) (omega arith)
+over-room lent m n h k = omega (arith, packets-enough sysex8 n)
 
 -- ---- an answer and its bytes
 

@@ -7,9 +7,13 @@ use native.Mathlib.Nat.{add-zero, zero-add}
 use native.Mathlib.Omega.{arith}
 use lib.ListN.{length}
 use Rattle.ump.specs.Limits.{mostWords, mostBytes}
+use Rattle.ump.specs.Packet.{sysex8}
+use Rattle.ump.specs.Packing.{packetsFor}
 use Rattle.ump.specs.Edits.{Edit, Apart, replaced, editIn, editsFrom, editsOf, patchesOf, lengths, perEdit}
+use Rattle.ump.proofs.Sizes.{packets-are}
+use Rattle.ump.proofs.Limits.{fitting-carried}
 use Rattle.ump.proofs.First.{Side, under, over, side}
-use Rattle.merge.specs.Pass.{width, stepOf, merged, beginOf, Ahead, Turns, packets}
+use Rattle.merge.specs.Pass.{width, stepOf, merged, beginOf, Ahead, Turns}
 use Rattle.splice.specs.Merging.{Within, lessAfter, widths, Summed, Lists}
 use Rattle.merge.proofs.Turning.{begin, begin-is, turns-inside, length-all}
 use Rattle.splice.proofs.Lists.{Ordered, ordered, widths-inside, one-pass, two-passes, length-replaced}
@@ -109,13 +113,9 @@ module _ {shrunk grow : Bool} (pass : Pass shrunk grow) (n size lag total given 
 
 -- ---- a list of edits that can be done
 
--- a message has at most 4,096 packets
-fits-packets : (n : ℕ) → 4 * packets n ≤ mostWords → n ≤ mostBytes
-fits-packets n h = omega arith
-
 -- what a payload gains stands in the packets that it gains and in the last one that it had
-lag-packets : (less total : ℕ) → 0 < less → total ≤ less + (13 * (packets total - packets less) + 12)
-lag-packets less total h = omega arith
+lag-packets : (less total : ℕ) → 0 < less → total ≤ less + (13 * (packetsFor sysex8 total - packetsFor sysex8 less) + 12)
+lag-packets less total h = omega (arith, packets-are sysex8 less, packets-are sysex8 total)
 
 -- the payload never outgrows its room, where the first edits are passed
 record Growing (room at m : ℕ) (edits : List Edit) : Type 0 where
@@ -174,10 +174,10 @@ module _ {words : List ℕ} {head size total : ℕ} {numbers bytes source : List
   out-le = omega (arith, l .sized, widths-inside (length source) 0 edits order)
 
   size-le : size ≤ mostBytes
-  size-le = fits-packets size (omega (arith, l .held, l .small))
+  size-le = fitting-carried sysex8 size mostWords (omega (arith, l .held, l .small))
 
   total-le : total ≤ mostBytes
-  total-le = fits-packets total (omega (arith, l .needed, l .small))
+  total-le = fitting-carried sysex8 total mostWords (omega (arith, l .needed, l .small))
 
   pub summed : Summed numbers
   summed =
@@ -198,12 +198,12 @@ module _ {words : List ℕ} {head size total : ℕ} {numbers bytes source : List
   less-total = omega (arith, less-sized, sized, sum-length edits, sum-le (new false) (new true) edits (λ edit. omega arith))
 
   -- each pass can begin
-  pub turns-all : let lag = packets total - packets size in
+  pub turns-all : let lag = packetsFor sysex8 total - packetsFor sysex8 size in
       let b = beginOf numbers size in
       Within (13 * lag + 12) 0 0 edits → Turns false true size lag total (length bytes) b b b 0 edits
   turns-all w =
-      let room = 13 * (packets total - packets size) + 12 in
-      from-begin all (length source) size (packets total - packets size) total (length bytes) (Growing room)
+      let room = 13 * (packetsFor sysex8 total - packetsFor sysex8 size) + 12 in
+      from-begin all (length source) size (packetsFor sysex8 total - packetsFor sysex8 size) total (length bytes) (Growing room)
       (λ at m rest h k. omega (arith, h .same, h .here))
       (growing-next room)
       numbers order
@@ -212,9 +212,9 @@ module _ {words : List ℕ} {head size total : ℕ} {numbers bytes source : List
       (omega (arith, l .sized, sized, sum-length edits))
       (omega (arith, l .given)) (summed .put)
 
-  pub turns-shrink : let b = beginOf numbers size in Turns false false size (packets less - packets size) less (length bytes) b b b 0 edits
+  pub turns-shrink : let b = beginOf numbers size in Turns false false size (packetsFor sysex8 less - packetsFor sysex8 size) less (length bytes) b b b 0 edits
   turns-shrink =
-      from-begin shrinking (length source) size (packets less - packets size) less (length bytes) (λ at m rest. m ≤ at)
+      from-begin shrinking (length source) size (packetsFor sysex8 less - packetsFor sysex8 size) less (length bytes) (λ at m rest. m ≤ at)
       (λ at m rest h k. omega arith)
       (λ at m gap at′ m′ edit rest h r w. omega arith)
       numbers order
@@ -223,10 +223,10 @@ module _ {words : List ℕ} {head size total : ℕ} {numbers bytes source : List
       (omega (arith, l .sized, less-sized))
       (omega (arith, l .given)) (summed .put)
 
-  pub turns-grow : let b = beginOf numbers less in Turns true true less (packets total - packets less) total (length bytes) b b b 0 edits
+  pub turns-grow : let b = beginOf numbers less in Turns true true less (packetsFor sysex8 total - packetsFor sysex8 less) total (length bytes) b b b 0 edits
   turns-grow =
-      let room = 13 * (packets total - packets less) + 12 in
-      from-begin growing (length source) less (packets total - packets less) total (length bytes)
+      let room = 13 * (packetsFor sysex8 total - packetsFor sysex8 less) + 12 in
+      from-begin growing (length source) less (packetsFor sysex8 total - packetsFor sysex8 less) total (length bytes)
       (λ at m rest. 0 < less → m + sum (new true) rest ≤ at + sum (old true) rest + room)
       (λ at m rest h k. omega (arith, h (omega arith), sum-le (old true) (new true) rest (λ edit. omega arith)))
       (λ at m gap at′ m′ edit rest h r w k. omega (arith, h k))
@@ -237,4 +237,4 @@ module _ {words : List ℕ} {head size total : ℕ} {numbers bytes source : List
       (omega (arith, l .given)) (summed .put)
 
   pub length-less : length (merged false false 0 edits source bytes) ≡ less
-  length-less = length-all false false size (packets less - packets size) less numbers source bytes turns-shrink (l .sized)
+  length-less = length-all false false size (packetsFor sysex8 less - packetsFor sysex8 size) less numbers source bytes turns-shrink (l .sized)

@@ -7,7 +7,7 @@ use native.Mathlib.Omega.{arith}
 use lib.ListN.{length, getD}
 use Rattle.ump.specs.Word.{Below}
 use Rattle.ump.specs.Packet.{sysex8, groupAt, idAt}
-use Rattle.ump.specs.Packing.{wordsFor, pack}
+use Rattle.ump.specs.Packing.{packetsFor, wordsFor, pack}
 use Rattle.ump.specs.Check.{payloadOf}
 use Rattle.ump.specs.Splice.{rewritten}
 use Rattle.ump.specs.Edits.{editsOf, patchesOf, replaced}
@@ -15,9 +15,7 @@ use Rattle.ump.proofs.Splicing.{below-payload}
 use Rattle.splice.specs.Accepted.{Filled}
 use Rattle.flow.specs.Heads.{innerHead}
 use Rattle.splice.specs.Header.{baseOf, leveled, finished}
-use Rattle.merge.specs.Pass.{packets}
 use Rattle.splice.specs.Merging.{Listed, Lists, BeginsAll, EndsAll}
-use Rattle.merge.proofs.Lengths.{words-number}
 use Rattle.splice.proofs.Messages.{inside, end-fits, base-is}
 use Rattle.splice.proofs.Finished.{finished-is}
 use Rattle.splice.proofs.Heading.{leveled-stands, leveled-stored, leveled-long}
@@ -50,8 +48,8 @@ module _ {w us : List ℕ} {len size total filled : ℕ} {numbers bytes : List �
         apart = l .apart;
         given = l .given;
         result = l .sized ∙ ap (λ (p : List ℕ). length (replaced p (patchesOf (editsOf numbers) bytes))) (sym (f .carries));
-        held = omega (arith, words-number size, end-fits (f .passed), inside (f .passed), long, f .long);
-        needed = omega (arith, words-number total, l .room, long);
+        held = omega (arith, end-fits (f .passed), inside (f .passed), long, f .long);
+        needed = omega (arith, l .room, long);
         small = omega (arith, inside (f .passed), long, f .long);
         free = omega (arith, base-small);
         plain = omega arith;
@@ -65,7 +63,7 @@ module _ {w us : List ℕ} {len size total filled : ℕ} {numbers bytes : List �
   unfolding rewritten
   replace-ends {vs} {end} below ends done =
       let new = replaced source (patchesOf (editsOf numbers) bytes) in
-      let e : packets total ≡ end / 4 = omega (arith, words-number total) in
+      let e : packetsFor sysex8 total ≡ end / 4 = omega arith in
       let message = pack sysex8 (groupAt sysex8 us 0) (idAt sysex8 us 0) new in
       let few : Below 256 new = rw (← all-merged lists) (below-merged 256 false true 0 (editsOf numbers) source bytes (lists .below) below) in
       finished-is level new (groupAt sysex8 us 0) (idAt sysex8 us 0) base total end (lists .result) few refl (shared ∙ base-is (f .passed)) ends (omega (arith, l .room, long)) vs (rw e at (done source lists)) filled

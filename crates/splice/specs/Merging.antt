@@ -1,17 +1,17 @@
 -- All edits of a list, in one pass over a payload or in two. Assumes nothing.
 use mathlib.Core.Path.{_≡_}
 use mathlib.Core.List.{List, [], _∷_}
-use Prim.Native.Nat.{ℕ, _+_, _-_, _*_, _/_, _%_, _≤_, _<_}
+use Prim.Native.Nat.{ℕ, _+_, _-_, _/_, _%_, _≤_, _<_}
 use lib.ListN.{length}
 use Rattle.ump.specs.Word.{Below}
 use Rattle.ump.specs.Limits.{mostWords, mostBytes}
 use Rattle.ump.specs.Packet.{sysex8}
-use Rattle.ump.specs.Packing.{wordsFor}
+use Rattle.ump.specs.Packing.{packetsFor, wordsFor}
 use Rattle.ump.specs.Check.{payloadOf}
 use Rattle.ump.specs.Edits.{Edit, Apart, editIn, editsOf, lengths, patchesOf, perEdit, replaced}
 use Rattle.flow.specs.Flowing.{Poured}
 use Rattle.merge.specs.Pieces.{Stands}
-use Rattle.merge.specs.Pass.{width, packets}
+use Rattle.merge.specs.Pass.{width}
 use Rattle.splice.specs.Accepted.{Accepted}
 
 -- no first edits of the list grow the payload by more than so many bytes, where so many are put in and taken out before
@@ -52,8 +52,8 @@ pub record Lists (words : List ℕ) (head size total : ℕ) (numbers bytes sourc
   pub apart : Apart (patchesOf (editsOf numbers) bytes) size
   pub given : lengths (editsOf numbers) ≡ length bytes
   pub result : total ≡ length (replaced source (patchesOf (editsOf numbers) bytes))
-  pub held : 4 * packets size ≤ length words
-  pub needed : 4 * packets total ≤ length words
+  pub held : wordsFor sysex8 size ≤ length words
+  pub needed : wordsFor sysex8 total ≤ length words
   pub small : length words ≤ mostWords
   pub free : head ≤ 4294967040
   pub plain : head % 256 ≡ 0
@@ -66,4 +66,4 @@ pub record BeginsAll (words : List ℕ) (head size total : ℕ) (numbers bytes :
 abbrev pub EndsAll : List ℕ → ℕ → ℕ → ℕ → List ℕ → List ℕ → List ℕ → Type 0
 EndsAll words head size total numbers bytes words′ =
     (source : List ℕ) → Lists words head size total numbers bytes source
-    → Poured sysex8 words (replaced source (patchesOf (editsOf numbers) bytes)) head (packets total) words′
+    → Poured sysex8 words (replaced source (patchesOf (editsOf numbers) bytes)) head (packetsFor sysex8 total) words′

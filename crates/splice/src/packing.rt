@@ -13,7 +13,7 @@ use super::header::base_of;
 use super::header::head;
 use super::header::inner_head;
 use super::header::put_head;
-use merge::numbers::words_needed;
+use super::sysex8::words_needed;
 use merge::pending::flush;
 use merge::pending::nothing;
 use merge::pending::take_packet;

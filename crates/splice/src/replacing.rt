@@ -14,9 +14,9 @@ use super::header::inner_head;
 use super::header::level;
 use super::packing::finish;
 use super::packing::pack;
+use super::sysex8::words_needed;
 use merge::merging::merge;
 use merge::numbers::over;
-use merge::numbers::words_needed;
 
 // Whether every packet but the last is full: only then do the others carry as much as they can.
 pub(crate) fn is_full(words: &[u32], length: usize, size: usize) -> bool
@@ -88,7 +88,7 @@ fn merge_all(
     requires { ⌜ BeginsAll (now words) head size total (now numbers) (now bytes) ⌝ }
     ensures { λ _. ⌜ EndsAll (now (words .entry)) head size total (now (numbers .entry)) (now (bytes .entry)) (now (words .exit)) ⌝ }
 {
-    let gained = over(words_needed(total), words_needed(size)) / 4;
+    let gained = over(layout::sysex8_packets(total), layout::sysex8_packets(size));
     if outgrows(numbers, 13 * gained + 12) {
         let less = less_after(numbers, size);
         merge(words, head, size, less, numbers, bytes, false, false);

@@ -9,7 +9,7 @@ ghost use Rattle.splice.specs.Splices.{Possible, newSize};
 use super::packing::pack;
 use super::replacing::is_full;
 use super::replacing::replace_all;
-use merge::numbers::words_needed;
+use super::sysex8::words_needed;
 
 // Replaces the payload bytes `from..to` of a valid message and writes the fewest-packet form; answers its length.
 pub(crate) fn splice(

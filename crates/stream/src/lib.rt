@@ -5,8 +5,6 @@ ghost use lib.ListN.{length, set};
 ghost use Rattle.refusal.specs.Answer.{refused};
 ghost use Rattle.refusal.specs.Number.{numberOf};
 ghost use Rattle.ump.specs.Word.{pairAt};
-ghost use Rattle.ump.specs.Packet.{sysex7};
-ghost use Rattle.ump.specs.Packing.{packetsFor};
 ghost use Rattle.ump.specs.Stream.{badFrame, badByte, withoutRealTime, firstBad, toSysex7};
 ghost use Rattle.stream.specs.Meaning.{writtenMeaning};
 ghost use Rattle.stream.specs.Steps.{onward, countBelow, fourAt, headWord, Took, TookSix, Filled, Sized, withPackets};
@@ -110,16 +108,6 @@ fn first_bad(inner: &[u8]) -> usize
         at += 1;
     }
     at
-}
-
-// The packets of six bytes, only the last shorter; one if there is no data.
-fn packets_for(size: usize) -> usize
-    ensures { λ r. ⌜ r ≡ packetsFor sysex7 size ⌝ }
-{
-    if size == 0 {
-        return 1;
-    }
-    (size - 1) / 6 + 1
 }
 
 // The first word of a packet without its bytes: type 3 and group, status and count.
@@ -248,7 +236,7 @@ pub fn to_sysex7(bytes: &[u8], group: u8, words: &mut [u32]) -> Written
     if septets < size {
         return refuse(Refusal::Byte, first_bad(inner) + 1);
     }
-    let packets = packets_for(size);
+    let packets = layout::sysex7_packets(size);
     if words.len() / 2 < packets {
         return refuse(Refusal::Room, 0);
     }

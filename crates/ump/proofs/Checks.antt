@@ -8,8 +8,8 @@ use native.Mathlib.Omega.{arith}
 use lib.Dec.{eqb, ltb}
 use borrow.Author.Tests.{ltb-false, le-ltb, eqb-true, eq-eqb, not-false}
 use lib.ListN.{length}
-use Rattle.refusal.specs.Answer.{gives, refused, Verdict, pass, _▷_, guard}
-use Rattle.refusal.proofs.Laws.{never-refused, guard-passed}
+use Rattle.refusal.specs.Answer.{Verdict, pass, _▷_, guard}
+use Rattle.refusal.proofs.Laws.{guard-passed, pass-both}
 use Rattle.ump.specs.Packet.{Shape, countAt, idAt}
 use Rattle.ump.specs.Limits.{mostWords}
 use Rattle.ump.specs.Check.{firstWhere, sweep, statusNumber, same, badType, badStatus, badCount, badGroup, badId, checkPackets, check, Valid}
@@ -25,10 +25,6 @@ pub pass-sweep : (shape : Shape) (nr : ℕ → ℕ) (bad : ℕ → Bool) (n : �
 pass-sweep shape nr bad n e p h =
     let k : n ≤ firstWhere bad n = ltb-false (firstWhere bad n) n (guard-passed _ _ _ e) in
     first-before bad n p (omega arith)
-
-pub pass-both : (u v : Verdict) → u ▷ v ≡ pass → (u ≡ pass) × (v ≡ pass)
-pass-both (gives u) v e = (refl, e)
-pass-both (refused nr at) v e = never-refused e
 
 -- ---- the whole check
 

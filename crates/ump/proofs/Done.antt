@@ -7,12 +7,12 @@ use lib.Dec.{ltb}
 use lib.ListN.{length}
 use borrow.Author.Tests.{ltb-false}
 use Rattle.refusal.specs.Answer.{gives, pass, _▷_, guard}
-use Rattle.refusal.proofs.Laws.{guard-passed, writes-given}
+use Rattle.refusal.proofs.Laws.{guard-passed, pass-both, writes-given}
 use Rattle.ump.specs.Packet.{Shape}
 use Rattle.ump.specs.Packing.{wordsFor}
 use Rattle.ump.specs.Check.{check, payloadOf}
 use Rattle.ump.specs.Splice.{spliced, rewritten, growthBy, Spliced, splice, repack}
-use Rattle.ump.proofs.Checks.{passes-valid, pass-both, or-left, or-right}
+use Rattle.ump.proofs.Checks.{passes-valid, or-left, or-right}
 use Rattle.ump.proofs.Message.{packing-has-room}
 
 -- in range and with room, and the message written is the fewest-packet form of the new payload

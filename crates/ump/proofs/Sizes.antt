@@ -1,9 +1,9 @@
 -- Numbers of a shape: payload sizes of packets, and how many packets a payload takes. Assumes nothing.
-use mathlib.Core.Path.{_≡_, refl, sym, ap, _∙_}
+use mathlib.Core.Path.{_≡_, refl, sym, ap}
 use mathlib.Core.Bool.{Bool, true, false, cond}
 use mathlib.Core.Logic.{_≢_}
 use Prim.Native.Nat.{ℕ, zero, suc, _+_, _-_, _*_, _/_, _≤_, _<_}
-use native.Mathlib.Nat.{zero-div, add-div-right, div-add-mod', mod-lt, mul-suc, mul-le-mul-left, le-div-iff-mul-le, div-mul-le-self, div-lt-iff-lt-mul, mul-pos}
+use native.Mathlib.Nat.{zero-div, div-add-mod', mod-lt, mul-suc, mul-le-mul-left, le-div-iff-mul-le, div-mul-le-self, div-lt-iff-lt-mul, mul-pos}
 use native.Mathlib.Omega.{arith}
 use lib.Dec.{eqb, leb}
 use lib.Pow.{pow-pos, pow-mono}
@@ -41,14 +41,11 @@ module _ (shape : Shape) where
 
   -- ---- the packets of n bytes
 
-  -- rounded up: one more than the packets that all bytes but the last fill
+  -- without the special case: as numbers go, all bytes but the last of none are none
   pub packets-are : (n : ℕ) → packetsFor shape n ≡ suc ((n - 1) / shape .room)
   unfolding packetsFor
   packets-are zero = ap suc (sym (zero-div (shape .room)))
-  packets-are (suc n) =
-      let e : suc n + (shape .room - 1) ≡ n + shape .room = omega (arith, shape .some-room) in
-      let d : suc n - 1 ≡ n = omega arith in
-      rw (ne-eqb (suc n) 0 (λ z. omega arith), e, d) (add-div-right n (shape .some-room) ∙ omega arith)
+  packets-are (suc n) = rw (ne-eqb (suc n) 0 (λ z. omega arith)) (omega arith)
 
   pub packets-pos : (n : ℕ) → 0 < packetsFor shape n
   packets-pos n = rw (packets-are n) (omega arith)

@@ -1,17 +1,25 @@
--- Packing and splice as they stood until document 02's T-12, with the tests that it took out, word for word: 19 was refused, by the name of
--- Spread, if the packing would need more words than the message has. No call is described by these; they are here so that proofs/Withdrawn
--- can say that no input was ever answered 19, and that every input is answered as before.
+-- What document 02 took out, as it stood until then. No call is described by it; it is here so that proofs/Withdrawn can say that every
+-- input is answered as before.
 -- Assumes nothing.
-use mathlib.Core.Bool.{_||_}
+use mathlib.Core.Bool.{cond, _||_}
 use mathlib.Core.List.{List}
-use Prim.Native.Nat.{ℕ, _-_}
-use lib.Dec.{ltb}
+use Prim.Native.Nat.{ℕ, _+_, _-_, _*_, _/_, _%_}
+use lib.Dec.{eqb, ltb}
 use lib.ListN.{length}
 use Rattle.refusal.specs.Answer.{Answer, _▷_, guard, writes}
 use Rattle.ump.specs.Packet.{Shape}
 use Rattle.ump.specs.Packing.{wordsFor}
 use Rattle.ump.specs.Check.{check, payloadOf}
 use Rattle.ump.specs.Splice.{spliced, rewritten, growthBy, Spliced}
+
+-- ---- T-03: the three branches of the original's `buffer_size_from_payload_size`, in plain numbers
+
+unfoldable pub wordsBefore : Shape → ℕ → ℕ
+wordsBefore shape n =
+    cond (eqb (n % shape .room) 0) (cond (eqb n 0) (shape .words) (n * shape .words / shape .room)) (shape .words * (n / shape .room + 1))
+
+-- ---- T-12: packing and splice with the tests that it took out, word for word: 19 was refused, by the name of Spread, if the packing would
+-- need more words than the message has
 
 -- packing: 1 to 12, 19, Room
 unfoldable pub repackBefore : Shape → List ℕ → ℕ → Answer ℕ × List ℕ

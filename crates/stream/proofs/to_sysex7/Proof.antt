@@ -41,8 +41,8 @@ one-bad c = sorted (between (stream (c .before))) .one-bad (omega (arith, septet
 none-bad : (c : tie.Else4) → length (between (stream (c .before))) ≤ badAt (stream (c .before))
 none-bad c = sorted (between (stream (c .before))) .none-bad (omega (arith, septets (c .before), size (c .before), c .if4 .left))
 
-packets : (c : tie.After-packets-for) → 2 * c .packets-for .result ≡ needed (stream (c .before .before))
-packets c = ap (λ (n : ℕ). 2 * n) (rw (size (c .before .before)) at (c .packets-for .ensures))
+packets : (c : tie.After-sysex7-packets) → 2 * c .sysex7-packets .result ≡ needed (stream (c .before .before))
+packets c = ap (λ (n : ℕ). 2 * n) (rw (size (c .before .before)) at (c .sysex7-packets .ensures))
 
 returns-2 : tie.Need-returns-2
 returns-2 c =
@@ -81,7 +81,7 @@ write-packets-requires : tie.Need-write-packets-requires
 write-packets-requires c κs =
     let t = c .before in
     let s = t .before .before in
-    (s .before .before .before .before .before .before .if2 .left, record { data-size = s .before .data-size .ensures; in-packets = t .before .packets-for .ensures }, omega (arith, t .if5 .left))
+    (s .before .before .before .before .before .before .if2 .left, record { data-size = s .before .data-size .ensures; in-packets = t .before .sysex7-packets .ensures }, omega (arith, t .if5 .left))
 
 returns-6 : tie.Need-returns-6
 returns-6 c =

@@ -12,7 +12,7 @@ use Rattle.refusal.specs.declared.Fault.{Fault}
 use Rattle.ump.specs.Packet.{sysex8}
 use Rattle.ump.specs.Packing.{wordsFor}
 use Rattle.ump.specs.Splice.{Spliced}
-use Rattle.merge.proofs.Lengths.{words-number}
+use Rattle.ump.proofs.Sizes.{packets-enough}
 use Rattle.splice.proofs.Messages.{inside, size-fits}
 use Rattle.edit.specs.Growth.{Sound}
 use Rattle.edit.specs.Meaning.{sizeMeaning}
@@ -38,7 +38,7 @@ room : (c : tie.Else1) → wordsFor sysex8 (c .before .before .before .listed2 .
 room c = rw (c .before .words-needed .ensures) at (c .if1 .left)
 
 total-small : (c : tie.Else1) → c .before .before .before .listed2 .given .0 .0 ≤ 53248
-total-small c = omega (arith, room c, words-number (c .before .before .before .listed2 .given .0 .0), inside (start (c .before) .pre))
+total-small c = omega (arith, room c, packets-enough sysex8 (c .before .before .before .listed2 .given .0 .0), inside (start (c .before) .pre))
 
 -- the growth of the whole
 sound : (c : tie.Else1) → Sound (record { from = 0; to = start (c .before) .args .size; length = c .before .before .before .listed2 .given .0 .0 })

@@ -1,19 +1,18 @@
 -- `merge` meets its contract: at each edit what is written and what waits is the new payload so far. Assumes nothing.
 use mathlib.Core.Path.{_≡_, _∙_}
 use mathlib.Core.List.{List}
-use Prim.Native.Nat.{ℕ, suc, _+_, _-_, _*_, _/_, _≤_, _<_}
+use Prim.Native.Nat.{ℕ, _+_, _-_, _*_, _≤_, _<_}
 use native.Mathlib.Omega.{arith}
 use lib.ListN.{length}
 use borrow.Author.Needs.{needs}
-use Rattle.ump.specs.Limits.{mostWords, mostBytes}
+use Rattle.ump.specs.Limits.{mostBytes}
 use Rattle.ump.specs.Edits.{editIn}
 use Rattle.ump.specs.Packet.{sysex8}
-use Rattle.ump.specs.Packing.{wordsFor}
+use Rattle.ump.specs.Packing.{packetsFor}
 use Rattle.ump.proofs.Words.{below-at}
 use Rattle.merge.specs.Pieces.{taken}
-use Rattle.merge.specs.Pass.{packets, Merges}
-use Rattle.merge.proofs.Lengths.{words-number}
-use Rattle.merge.proofs.Merges.{Pass, Asks, Edited, pass-starts, begin-asks, next-number, edit-asks, edit-inside, edit-keeps, edit-gives, edit-next, end-keeps, end-poured, poured-entry}
+use Rattle.merge.specs.Pass.{Merges}
+use Rattle.merge.proofs.Merges.{Pass, Asks, Edited, pass-starts, begin-asks, next-number, size-number, edit-asks, edit-inside, edit-keeps, edit-gives, edit-next, end-keeps, end-poured, poured-entry}
 use Rattle.merge.proofs.merging.merge.Statement.{statement}
 use Rattle.merge.proofs.merging.merge.Tie as tie
 
@@ -25,25 +24,15 @@ Inv-loop words₀ head size total numbers bytes shrunk grow count held needed la
 abbrev μ-loop : tie.MeasureT-loop
 μ-loop words₀ head size total numbers bytes shrunk grow count held needed lag at₀ flow₀ hand₀ end₀ start₀ index₀ words at flow hand end start index = count - index
 
--- packets by the words that they take
-packets-are : (n words : ℕ) → words ≡ wordsFor sysex8 n → words / 4 ≡ packets n
-packets-are n words e = omega (arith, words-number n)
-
 abbrev to-begin : tie.After-packet-of Inv-loop μ-loop → tie.After-begin-of Inv-loop μ-loop
 to-begin c = c .before .before .before .before .before .before .before .before
 
 abbrev to-start : tie.After-begin-of Inv-loop μ-loop → tie.Start Inv-loop μ-loop
 to-start b = b .before .before .before .before .before .before .before
 
--- the numbers that it goes by
-held-is : (b : tie.After-begin-of Inv-loop μ-loop) → b .before .before .before .words-needed .result / 4 ≡ packets (to-start b .args .size)
-held-is b = packets-are _ _ (b .before .before .before .words-needed .ensures)
-
-needed-is : (b : tie.After-begin-of Inv-loop μ-loop) → b .before .before .words-needed2 .result / 4 ≡ packets (to-start b .args .total)
-needed-is b = packets-are _ _ (b .before .before .words-needed2 .ensures)
-
-lag-is : (b : tie.After-begin-of Inv-loop μ-loop) → b .before .over .result ≡ packets (to-start b .args .total) - packets (to-start b .args .size)
-lag-is b = omega (arith, b .before .over .ensures, held-is b, needed-is b)
+-- the packets that the message gains
+lag-is : (b : tie.After-begin-of Inv-loop μ-loop) → b .before .over .result ≡ packetsFor sysex8 (to-start b .args .total) - packetsFor sysex8 (to-start b .args .size)
+lag-is b = omega (arith, b .before .over .ensures, b .before .before .before .sysex8-packets .ensures, b .before .before .sysex8-packets2 .ensures)
 
 -- the pass that begins, whatever payload stands in the words
 begun : (c : tie.After-packet-of Inv-loop μ-loop) → let b = to-begin c in let x = to-start b .args in (source : List ℕ)
@@ -55,11 +44,11 @@ begun c source m =
     let b = to-begin c in
     let f = c .before .before .before .before .before .before .before2 in
     let bytes = b .before .before .before .before .shared-slice-known2 in
-    pass-starts m (b .begin-of .result) _ (b .begin-of .ensures) (held-is b) (c .before .before .before .before .move-up .ensures) (f .result) (f .ensures .0) (c .packet-of .result) (f .ensures .1 .0) (f .ensures .1 .1 .0)
+    pass-starts m (b .begin-of .result) _ (b .begin-of .ensures) (b .before .before .before .sysex8-packets .ensures) (c .before .before .before .before .move-up .ensures) (f .result) (f .ensures .0) (c .packet-of .result) (f .ensures .1 .0) (f .ensures .1 .1 .0)
     (f .ensures .1 .1 .1) (lag-is b) (below-at 256 (to-start b .args .bytes .now) (λ k l. omega (arith, bytes .given k))) (c .packet-of .ensures .1) (c .packet-of .ensures .0)
 
-asks : (b : tie.After-begin-of Inv-loop μ-loop) → Asks (b .begin-of .result) (b .before .before .before .words-needed .result / 4) (b .before .over .result) (length (to-start b .args .words .now))
-asks b = begin-asks (to-start b .pre .merges) (b .begin-of .result) _ _ (b .begin-of .ensures) (held-is b) (lag-is b)
+asks : (b : tie.After-begin-of Inv-loop μ-loop) → Asks (b .begin-of .result) (b .before .before .before .sysex8-packets .result) (b .before .over .result) (length (to-start b .args .words .now))
+asks b = begin-asks (to-start b .pre .merges) (b .begin-of .result) _ _ (b .begin-of .ensures) (b .before .before .before .sysex8-packets .ensures) (lag-is b)
 
 -- the pass that has come to an edit
 abbrev start-of : tie.At-loop Inv-loop μ-loop → tie.Start Inv-loop μ-loop
@@ -101,11 +90,8 @@ of-edit : (c : tie.After-step-of Inv-loop μ-loop) → let x = start-of (c .befo
     Edited (x .size) (x .total) (length (x .bytes .now)) (l .at) (taken (l .flow)) (l .start) (c .step-of .result) (editIn (x .numbers .now) (l .index) .length)
 of-edit c = edit-inside (here (c .before .before)) (c .before .loop-test .taken) (c .step-of .result) (c .step-of .ensures)
 
-size-fits : (size lag room : ℕ) → 4 * (suc ((size - 1) / 13) + lag) ≤ room → room ≤ mostWords → size ≤ mostBytes
-size-fits size lag room h l = omega arith
-
 small : (c : tie.At-loop Inv-loop μ-loop) → start-of c .args .size ≤ mostBytes
-small c = size-fits _ _ _ (here c .top) (here c .small)
+small c = size-number _ _ _ _ (omega arith) (here c .top) (here c .small)
 
 next-of-requires : tie.Need-next-of-requires Inv-loop μ-loop
 next-of-requires c κs =
@@ -161,7 +147,7 @@ flush-requires c κs =
     let k = c .before .before .before in
     let l = k .before .before in
     let p = here (l .before) in
-    let needed = needed-is (to-begin (l .before .before)) in
+    let needed = to-begin (l .before .before) .before .before .sysex8-packets2 .ensures in
     let long = k .keep2 .ensures .long ∙ p .flows .long in
     (omega (arith, needed, p .room, p .small), (omega (arith, needed, p .room, long), (k .keep2 .ensures .fits, p .free)))
 
@@ -172,8 +158,8 @@ returns : tie.Need-returns Inv-loop μ-loop
 returns c source m =
     let l = loop-of c in
     let b = to-begin (l .before .before) in
-    poured-entry (l .before .before .before .before .before .before .move-up .ensures) (lag-is b ∙ rw (held-is b))
-    (end-poured (at-loop (l .before) source m) (omega (arith, l .loop-test .left)) _ (c .before .before .before .before .before .before .keep2 .ensures) (needed-is b) (c .before .before .flush .ensures))
+    poured-entry (l .before .before .before .before .before .before .move-up .ensures) (omega (arith, b .before .over .ensures, b .before .before .sysex8-packets2 .ensures))
+    (end-poured (at-loop (l .before) source m) (omega (arith, l .loop-test .left)) _ (c .before .before .before .before .before .before .keep2 .ensures) (b .before .before .sysex8-packets2 .ensures) (c .before .before .flush .ensures))
 
 pub merge-spec : {M : Type 1} → statement M
 merge-spec =

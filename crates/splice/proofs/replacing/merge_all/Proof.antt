@@ -2,15 +2,16 @@
 use mathlib.Core.Path.{_≡_}
 use mathlib.Core.Bool.{true, false}
 use mathlib.Core.List.{List}
-use Prim.Native.Nat.{ℕ, _+_, _-_, _*_, _/_, _≤_}
+use Prim.Native.Nat.{ℕ, _+_, _-_, _*_, _≤_}
 use native.Mathlib.Omega.{arith}
 use borrow.Author.Needs.{needs}
 use Rattle.ump.specs.Word.{Below}
 use Rattle.ump.proofs.Words.{below-at}
 use Rattle.ump.specs.Edits.{editsOf}
-use Rattle.merge.specs.Pass.{merged, packets, Merges}
+use Rattle.ump.specs.Packet.{sysex8}
+use Rattle.ump.specs.Packing.{packetsFor}
+use Rattle.merge.specs.Pass.{merged, Merges}
 use Rattle.splice.specs.Merging.{Lists}
-use Rattle.merge.proofs.Lengths.{words-number}
 use Rattle.splice.proofs.Passing.{summed}
 use Rattle.splice.proofs.Passes.{merges-all, ends-all, merges-shrink, merges-grow, ends-grow}
 use Rattle.splice.proofs.replacing.merge_all.Statement.{statement}
@@ -20,11 +21,10 @@ use Rattle.splice.proofs.replacing.merge_all.Tie as tie
 abbrev start-of : tie.After-over → tie.Start
 start-of c = c .before .before .before .before .before .before
 
-gained-is : (c : tie.After-over) → c .over .result / 4 ≡ packets (start-of c .args .total) - packets (start-of c .args .size)
-gained-is c =
-    omega (arith, c .over .ensures, c .before .words-needed2 .ensures, c .before .before .words-needed .ensures, words-number (start-of c .args .total), words-number (start-of c .args .size))
+gained-is : (c : tie.After-over) → c .over .result ≡ packetsFor sysex8 (start-of c .args .total) - packetsFor sysex8 (start-of c .args .size)
+gained-is c = omega (arith, c .over .ensures, c .before .sysex8-packets2 .ensures, c .before .before .sysex8-packets .ensures)
 
-gained-few : (c : tie.After-over) → 13 * (c .over .result / 4) + 12 ≤ 65536
+gained-few : (c : tie.After-over) → 13 * c .over .result + 12 ≤ 65536
 gained-few c = omega (arith, gained-is c, start-of c .pre .lists .needed, start-of c .pre .lists .small)
 
 outgrows-requires : tie.Need-outgrows-requires

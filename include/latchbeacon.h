@@ -361,7 +361,7 @@ latchbeacon_number latchbeacon_store_check(const uint8_t *store, size_t store_si
 latchbeacon_dump latchbeacon_store_describe(const uint8_t *store, size_t store_size, size_t number);
 
 /* Restores the dump of this number: its base first, then its edits. Writes its message in fewest-packet form, with the group and
- * stream id of its whole dump, answers its length in words, and zeroes all lent words past it. It takes up to 171 KB of stack.
+ * stream id of its whole dump, answers its length in words, and zeroes all lent words past it. It takes up to 167 KB of stack.
  * Refusals, in this order: 1, 21, 22, 23, 24, 25; then from the whole dump up: of the whole dump 14, of each delta 13, then 14 (the
  * dump itself, all its edits done, needs more words than lent). */
 latchbeacon_number latchbeacon_store_restore(const uint8_t *store, size_t store_size, size_t number, uint32_t *words,

@@ -163,7 +163,7 @@ impl<'a> Store<'a> {
     /// Restores the dump of this number: its base first, then its edits. It writes the message in fewest-packet form, with the group
     /// and stream id of its whole dump, zeroes all other words lent, and answers the length of the message in words.
     ///
-    /// It takes up to 171 KB of stack; a thread has 2 MB if nothing else is said.
+    /// It takes up to 167 KB of stack; a thread has 2 MB if nothing else is said.
     ///
     /// # Errors
     ///

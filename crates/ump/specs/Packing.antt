@@ -30,7 +30,7 @@ packsAt shape group id n piece p = wordsOf (frame shape (statusFor n p) group id
 unfoldable pub packs : Shape → ℕ → List ℕ → ℕ → (ℕ → List ℕ) → List ℕ
 packs shape group id n piece = joined (packsAt shape group id n piece) n
 
--- the packets of the fewest-packet form of n bytes: one if n is 0, else n over the room, rounded up: all bytes but the last, and one more
+-- the packets of the fewest-packet form of n bytes: one if n is 0, else n over the room, rounded up
 unfoldable pub packetsFor : Shape → ℕ → ℕ
 packetsFor shape n = cond (eqb n 0) 1 ((n - 1) / shape .room + 1)
 

@@ -1,5 +1,4 @@
--- What document 02 took out, as it stood until then. No call is described by it; it is here so that proofs/Withdrawn can say that every
--- input is answered as before.
+-- What document 02 took out. No call is described by it; it is here so that proofs/Withdrawn can say that every input is answered as before.
 -- Assumes nothing.
 use mathlib.Core.Bool.{cond, _||_}
 use mathlib.Core.List.{List}
@@ -12,7 +11,7 @@ use Rattle.ump.specs.Packing.{wordsFor}
 use Rattle.ump.specs.Check.{check, payloadOf}
 use Rattle.ump.specs.Splice.{spliced, rewritten, growthBy, Spliced}
 
--- ---- T-03: the three branches of the original's `buffer_size_from_payload_size`, in plain numbers
+-- ---- T-03: the words needed by three branches, as the original's `buffer_size_from_payload_size` has them, in plain numbers
 
 unfoldable pub wordsBefore : Shape → ℕ → ℕ
 wordsBefore shape n =

@@ -4,7 +4,6 @@ pub mod Making
 pub mod Orders
 pub mod Weights
 pub mod Needs
-pub mod Replay
 pub mod Outside
 pub mod Sizing
 pub mod Steps

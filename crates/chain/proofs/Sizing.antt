@@ -18,7 +18,7 @@ use Rattle.chain.specs.Restore.{outside}
 use Rattle.chain.specs.Laying.{Past, DataSized, Becomes}
 use Rattle.chain.specs.declared.edits.Reached.{Reached}
 use Rattle.chain.proofs.Outside.{or-false}
-use Rattle.chain.proofs.Replay.{replay, replaced-is}
+use Rattle.ump.proofs.Replay.{replay, replaced-is}
 
 -- ---- data
 

@@ -1,6 +1,6 @@
 // The delta chain (02, T-02): dumps, whole or as edits of another, in a store of bytes; one of them described. Crate restore restores it.
 pub mod edits;
-mod measuring;
+pub mod measuring;
 
 ghost use mathlib.Core.Path.{_≡_};
 ghost use Prim.Native.Nat.{suc, _≤_};

@@ -24,7 +24,7 @@ use store::record::number_at;
 
 // What a dump measures: the group and stream id of its whole dump, its payload size, the largest on the way, its own counted, and how many
 // bases are followed.
-pub(crate) struct Extent {
+pub struct Extent {
     pub group: u8,
     pub id: u8,
     pub size: usize,
@@ -33,13 +33,13 @@ pub(crate) struct Extent {
 }
 
 // A dump measured, or why it is not.
-pub(crate) enum Measured {
+pub enum Measured {
     Dump(Extent),
     Refused(Refusal),
 }
 
 // How many bytes the data has that begins at a place, and where it ends.
-fn measure_data(store: &[u8], at: usize) -> Reached
+pub fn measure_data(store: &[u8], at: usize) -> Reached
     ensures { λ r. ⌜ DataSized (now (store .entry)) at r ⌝ }
 {
     let mut place = at;
@@ -116,7 +116,7 @@ fn measure_delta(store: &[u8], at: usize, base: Extent) -> Measured
 
 // Measures the dump of this number, its base first, where the walk may come to `left` numbers more: Ring, Missing, and then Range along the
 // walk, the base's before its delta's.
-pub(crate) fn measure(store: &[u8], places: &[usize], number: usize, left: usize) -> Measured
+pub fn measure(store: &[u8], places: &[usize], number: usize, left: usize) -> Measured
     requires { ⌜ Noted (now store) (now places) × ((sound (now store) ≡ pass) × (left ≤ 257)) ⌝ }
     ensures { λ r. ⌜ Measures (dumpsOf (now (store .entry))) left number r ⌝ }
 {

@@ -6,13 +6,16 @@ use Rattle.refusal.proofs.Laws.{faultBack, fault-back}
 use Rattle.refusal.proofs.Tight.{once}
 use Rattle.ump.specs.Edits as ump
 use Rattle.ump.specs.Origin.{Origin, headerOctet, carried, dumpByte, editByte, filler, zeroed, untouched}
-use Rattle.edit.specs.Meaning.{grownMeaning, movedMeaning, originMeaning}
+use Rattle.edit.specs.Meaning.{grownMeaning, movedMeaning, originMeaning, placedMeaning}
+use Rattle.edit.specs.Placed.{Place, inDump, inBytes}
 use Rattle.edit.specs.declared.Grown.{Grown}
 use Rattle.edit.specs.declared.Grown.the-variants as grown
 use Rattle.edit.specs.declared.Moved.{Moved}
 use Rattle.edit.specs.declared.Moved.the-variants as moved
 use Rattle.edit.specs.declared.origins.OctetOrigin.{OctetOrigin}
 use Rattle.edit.specs.declared.origins.OctetOrigin.the-variants as origin
+use Rattle.edit.specs.declared.placing.Placed.{Placed}
+use Rattle.edit.specs.declared.placing.Placed.the-variants as placed
 
 abbrev grownBack : Answer ℤ → Grown
 grownBack (gives growth) = grown.By growth
@@ -56,3 +59,16 @@ origin-back (origin.Refused fault) = ap origin.Refused (fault-back fault)
 
 pub origin-once : (x y : OctetOrigin) → originMeaning x ≡ originMeaning y → x ≡ y
 origin-once = once originMeaning originBack origin-back
+
+abbrev placedBack : Answer Place → Placed
+placedBack (gives (inDump at)) = placed.Dump at
+placedBack (gives (inBytes at)) = placed.Bytes at
+placedBack (refused number place) = placed.Refused (faultBack number place)
+
+placed-back : (x : Placed) → placedBack (placedMeaning x) ≡ x
+placed-back (placed.Dump at) = refl
+placed-back (placed.Bytes at) = refl
+placed-back (placed.Refused fault) = ap placed.Refused (fault-back fault)
+
+pub placed-once : (x y : Placed) → placedMeaning x ≡ placedMeaning y → x ≡ y
+placed-once = once placedMeaning placedBack placed-back

@@ -7,6 +7,8 @@ use native.Mathlib.Omega.{arith}
 use lib.ListN.{length, take, drop}
 use Rattle.ump.specs.Edits.{Edit, Patch, patchAt, endBefore, Apart, patchesOf, someBad, someOverlap}
 use Rattle.ump.proofs.Replace.{endFrom, end-before, end-next}
+use Rattle.splice.specs.Merging.{widths}
+use Rattle.splice.proofs.Lists.{ordered, widths-inside}
 use Rattle.edit.proofs.Lists.{bad-none, overlap-none}
 
 after : (start : ℕ) (es : List Edit) (bytes : List ℕ) → someOverlap start es ≡ false
@@ -36,3 +38,7 @@ apart n es bytes b o =
     last : (m : ℕ) → m ≤ length (patchesOf es bytes) → endBefore (patchesOf es bytes) m ≤ n
     last zero h = omega arith
     last (suc m) h = within n es bytes b m h .1
+
+-- and so no more bytes are taken out than there are
+pub widths-fit : (n : ℕ) (es : List Edit) → someBad n es ≡ false → someOverlap 0 es ≡ false → widths es ≤ n
+widths-fit n es b o = omega (arith, widths-inside n 0 es (ordered n es [] (apart n es [] b o)))

@@ -42,7 +42,7 @@ below-patches m [] bytes b k h = absurd (omega arith)
 below-patches m (edit ∷ edits) bytes b zero h = below-take m (edit .length) bytes b
 below-patches m (edit ∷ edits) bytes b (suc k) h = below-patches m edits (drop (edit .length) bytes) (below-drop m (edit .length) bytes b) k (omega arith)
 
-edits-for : (edits : List Edit) (bytes : List ℕ) → lengths edits ≤ length bytes → editsFor (patchesOf edits bytes) ≡ edits
+pub edits-for : (edits : List Edit) (bytes : List ℕ) → lengths edits ≤ length bytes → editsFor (patchesOf edits bytes) ≡ edits
 edits-for [] bytes h = refl
 edits-for (edit ∷ edits) bytes h =
     ap₂ (λ (n : ℕ) (rest : List Edit). record { from = edit .from; to = edit .to; length = n } ∷ rest)

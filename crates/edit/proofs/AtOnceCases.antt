@@ -1,5 +1,5 @@
 -- All edits of a list, case by case. Assumes nothing.
-use mathlib.Core.Path.{_≡_, sym, ap}
+use mathlib.Core.Path.{_≡_, sym}
 use mathlib.Core.Bool.{Bool, true, false}
 use mathlib.Core.List.{List}
 use Prim.Native.Nat.{ℕ, _≤_, _<_}
@@ -8,25 +8,24 @@ use lib.Dec.{ltb}
 use lib.IntN.{ℤ, pos, _-ℤ_}
 use lib.ListN.{length}
 use borrow.Author.Tests.{lt-ltb, le-ltb}
-use Rattle.refusal.specs.Answer.{Verdict, gives, refused, pass, _▷_, guard, verdict}
-use Rattle.refusal.proofs.Laws.{never-both}
+use Rattle.refusal.specs.Answer.{Verdict, gives, refused, pass, _▷_, guard}
+use Rattle.refusal.proofs.Laws.{never-both, given-passes, refused-by}
 use Rattle.ump.specs.Packet.{sysex8}
 use Rattle.ump.specs.Packing.{wordsFor}
 use Rattle.ump.specs.Check.{check, payloadOf}
 use Rattle.ump.specs.Splice.{rewritten}
 use Rattle.ump.specs.Edits.{Apart, replaced, editsOf, patchesOf, badList, someOverlap, allChecks, spliceAll}
-use Rattle.splice.specs.Accepted.{Accepted}
+use Rattle.message.specs.Accepted.{Accepted}
 use Rattle.splice.specs.Merging.{Listed}
 use Rattle.splice.proofs.Lists.{length-replaced}
-use Rattle.edit.specs.Listed.{sizeAfter, listed}
+use Rattle.edit.specs.Listed.{sizeAfter, listCheck, listed}
 use Rattle.edit.proofs.Lists.{Passing, list-passes}
 use Rattle.edit.proofs.Apart.{apart}
 
-guards-refused : (a b : Bool) (x : ℕ) (later : Verdict) {n q : ℕ}
-    → guard a 13 0 ▷ guard b 20 0 ▷ gives x ≡ refused n q → guard a 13 0 ▷ guard b 20 0 ▷ later ≡ refused n q
-guards-refused true b x later e = ap verdict e
-guards-refused false true x later e = ap verdict e
-guards-refused false false x later e = never-both e
+guards-refused : (a b : Bool) (later : Verdict) {n q : ℕ} → guard a 13 0 ▷ guard b 20 0 ≡ refused n q → guard a 13 0 ▷ guard b 20 0 ▷ later ≡ refused n q
+guards-refused true b later e = e
+guards-refused false true later e = e
+guards-refused false false later e = never-both e
 
 module _ (words : List ℕ) (len : ℕ) (numbers bytes : List ℕ) where
   abbrev old : List ℕ
@@ -44,26 +43,29 @@ module _ (words : List ℕ) (len : ℕ) (numbers bytes : List ℕ) where
 
   module _ {n : ℕ} (ok : Accepted words len n) where
     pub checks-listed : {number place : ℕ} → listed n (length bytes) numbers ≡ refused number place → allChecks sysex8 words len numbers bytes ≡ refused number place
-    unfolding listed
+    unfolding listCheck
     checks-listed e =
         rw (ok .passes, ← (ok .sized))
-        (guards-refused (badList n (length bytes) numbers) (someOverlap 0 (editsOf numbers)) (sizeAfter n (editsOf numbers))
-        (guard (ltb (length words) (wordsFor sysex8 (length new))) 14 0) e)
+        (guards-refused (badList n (length bytes) numbers) (someOverlap 0 (editsOf numbers))
+        (guard (ltb (length words) (wordsFor sysex8 (length new))) 14 0) (refused-by (listCheck n (length bytes) numbers) _ e))
 
     pub all-listed : {number place : ℕ} → listed n (length bytes) numbers ≡ refused number place → (refused number place, words) ≡ spliceAll sysex8 words len numbers bytes
     unfolding spliceAll
     all-listed e = rw (checks-listed e)
 
     module _ {size : ℕ} (l : listed n (length bytes) numbers ≡ gives size) where
-      passing : Passing (length old) (length bytes) numbers size
-      passing = list-passes (length old) (length bytes) numbers (rw (ok .sized) at l)
+      given : (listCheck (length old) (length bytes) numbers ≡ pass) × (sizeAfter (length old) (editsOf numbers) ≡ size)
+      given = given-passes (listCheck (length old) (length bytes) numbers) (rw (ok .sized) at l)
+
+      passing : Passing (length old) (length bytes) numbers
+      passing = list-passes (length old) (length bytes) numbers (given .0)
 
       ranges : Apart (patchesOf (editsOf numbers) bytes) (length old)
       ranges = apart (length old) (editsOf numbers) bytes (passing .good) (passing .apart)
 
       pub new-sized : length new ≡ size
       new-sized =
-          omega (arith, passing .sized, passing .all-bytes, length-replaced (editsOf numbers) old bytes ranges (omega (arith, passing .all-bytes)))
+          omega (arith, given .1, passing .all-bytes, length-replaced (editsOf numbers) old bytes ranges (omega (arith, passing .all-bytes)))
 
       pub checks-room : length words < wordsFor sysex8 size → allChecks sysex8 words len numbers bytes ≡ refused 14 0
       checks-room h = rw (ok .passes, passing .fine, passing .apart, new-sized, lt-ltb (length words) (wordsFor sysex8 size) h)

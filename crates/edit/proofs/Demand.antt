@@ -70,7 +70,7 @@ origin-back untouched = refl
 
 -- ---- each promise as an equation over plain values
 
-promised : PromisedFamily sysex8 family
+pub promised : PromisedFamily sysex8 family
 promised =
     record {
       splices = λ b s. let g = s .given in rw (g .0, g .1, g .2, g .3, g .4, s .left, s .answer-is) at (s .promise);

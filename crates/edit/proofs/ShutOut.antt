@@ -1,6 +1,6 @@
 -- Wrong answers that the promises shut out, each on a concrete input. Assumes nothing.
 use mathlib.Core.Path.{_≡_, ap}
-use mathlib.Core.Bool.{true, false, not, cond}
+use mathlib.Core.Bool.{Bool, true, false, not, cond}
 use mathlib.Core.List.{List, [], _∷_, _++_}
 use Prim.Native.Nat.{ℕ, _+_, _*_}
 use lib.Dec.{T, eqb}
@@ -30,14 +30,21 @@ use Rattle.splice.specs.declared.sysex8.Spliced as answer
 use Rattle.splice.specs.declared.sysex8.Change.{Change}
 use Rattle.splice.proofs.ShutOut.{Refuses}
 use Rattle.edit.specs.Growth.{growthOf}
-use Rattle.edit.specs.Meaning.{originMeaning}
+use Rattle.edit.specs.Listed.{listCheck}
+use Rattle.edit.specs.Placed.{Place, inDump, inBytes, placed}
+use Rattle.edit.specs.Meaning.{originMeaning, placedMeaning}
 use Rattle.edit.specs.declared.Edit.{Edit}
 use Rattle.edit.specs.declared.Range.{Range}
 use Rattle.edit.specs.declared.Grown.the-variants as grown
 use Rattle.edit.specs.declared.Moved.the-variants as moved
 use Rattle.edit.specs.declared.origins.OctetOrigin.{OctetOrigin}
 use Rattle.edit.specs.declared.origins.OctetOrigin.the-variants as comes
+use Rattle.edit.specs.declared.placing.Placed.{Placed}
+use Rattle.edit.specs.declared.placing.Placed.the-variants as place-of
 use Rattle.edit.proofs.growth.Reads as growth
+use Rattle.edit.proofs.is_bad.Reads as bad
+use Rattle.edit.proofs.placing.place.Kinds as place-kinds
+use Rattle.edit.proofs.placing.place.Reads as place
 use Rattle.edit.proofs.move_edit.Reads as move
 use Rattle.edit.proofs.all.splice_all.Kinds as all-kinds
 use Rattle.edit.proofs.all.splice_all.Reads as all
@@ -270,3 +277,69 @@ origin-shut-out = record {
   origin-past = λ κs a x s w p. never-both (rw (w .0, w .1, w .2, w .3, w .4, w .5 .is) at p);
   origin-refused = λ κs a x s w p. never-refused (rw (w .0, w .1, w .2, w .3, w .4, w .5 .is) at p);
 }
+
+-- ---- a bad edit
+
+abbrev flag : Bool → ℕ
+flag true = 1
+flag false = 0
+
+-- an edit that is reversed (reversed) or of a number above 53,248 (past) is none, or one of just that number is (most)
+record BadShut : Type 0 where
+  reversed : Shuts bad.Post (edit 3 2 0, tt) false
+  past : Shuts bad.Post (edit 0 0 53249, tt) false
+  most : Shuts bad.Post (edit 0 53248 53248, tt) true
+
+bad-shut : BadShut
+bad-shut =
+    record {
+      reversed = λ κs s p. differ flag tt p;
+      past = λ κs s p. differ flag tt p;
+      most = λ κs s p. differ flag tt p;
+    }
+
+-- ---- where a byte stands: five bytes, 0..1 by two, nothing at 2, 2..4 by one
+
+abbrev placeNumber : Place → ℕ
+placeNumber (inDump at) = 2 * at
+placeNumber (inBytes at) = 2 * at + 1
+
+-- the answer to these edits, with so many replacement bytes, for byte i
+abbrev PlaceShut : List ℕ → ℕ → ℕ → Placed → Type 0
+PlaceShut numbers bytes i wrong =
+    tight.ShutOut 1 place-kinds.ps place-kinds.r place.Post
+    (λ κs a x s. (a .0 .now ≡ numbers) × (a .1 .0 ≡ 5) × (a .1 .1 .0 ≡ bytes) × (a .1 .1 .1 .0 ≡ i) × (x ≡ wrong))
+
+place-wrong : (numbers : List ℕ) (bytes i : ℕ) (wrong : Placed)
+    → T (not (eqb (told placeNumber (placedMeaning wrong)) (told placeNumber (placed 5 bytes numbers i)))) → PlaceShut numbers bytes i wrong
+place-wrong numbers bytes i wrong t κs a x s w p = differ (told placeNumber) t (rw (w .0, w .1, w .2, w .3, w .4) at p)
+
+abbrev three : List ℕ
+three = 0 ∷ 1 ∷ 2 ∷ 2 ∷ 2 ∷ 0 ∷ 2 ∷ 4 ∷ 1 ∷ []
+
+-- the position itself (unedited); the byte of a replacement counted in its edit, not among all (own); the dump behind an edit from its start
+-- (start); a byte past the result (past); Overlap before Range (order), Range for the position before Overlap (position); edits that touch
+-- refused (touching); refused without edits (none)
+record PlaceShuts : Type 0 where
+  unedited : PlaceShut three 3 2 (place-of.Dump 2)
+  own : PlaceShut three 3 3 (place-of.Bytes 0)
+  start : PlaceShut three 3 4 (place-of.Dump 2)
+  past : PlaceShut three 3 5 (place-of.Dump 5)
+  order : PlaceShut (2 ∷ 4 ∷ 0 ∷ 0 ∷ 6 ∷ 0 ∷ []) 0 0 (place-of.Refused (fault refusal.Overlap))
+  position : PlaceShut (2 ∷ 4 ∷ 0 ∷ 0 ∷ 1 ∷ 0 ∷ []) 0 9 (place-of.Refused (fault refusal.Range))
+  touching : PlaceShut (0 ∷ 1 ∷ 0 ∷ 1 ∷ 3 ∷ 0 ∷ []) 0 0 (place-of.Refused (fault refusal.Overlap))
+  none : PlaceShut [] 0 4 (place-of.Refused (fault refusal.Range))
+
+place-shuts : PlaceShuts
+unfolding placed listCheck runFrom ump.editsFrom
+place-shuts =
+    record {
+      unedited = place-wrong _ _ _ _ tt;
+      own = place-wrong _ _ _ _ tt;
+      start = place-wrong _ _ _ _ tt;
+      past = place-wrong _ _ _ _ tt;
+      order = place-wrong _ _ _ _ tt;
+      position = place-wrong _ _ _ _ tt;
+      touching = place-wrong _ _ _ _ tt;
+      none = place-wrong _ _ _ _ tt;
+    }

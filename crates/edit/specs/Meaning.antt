@@ -6,6 +6,7 @@ use Rattle.refusal.specs.Answer.{Answer, gives}
 use Rattle.refusal.specs.Meaning.{faultOf}
 use Rattle.ump.specs.Edits as ump
 use Rattle.ump.specs.Origin.{Origin, headerOctet, carried, dumpByte, editByte, filler, zeroed, untouched}
+use Rattle.edit.specs.Placed.{Place, inDump, inBytes}
 use Rattle.edit.specs.declared.Edit.{Edit}
 use Rattle.edit.specs.declared.Range.{Range}
 use Rattle.edit.specs.declared.Grown.{Grown}
@@ -14,6 +15,8 @@ use Rattle.edit.specs.declared.Moved.{Moved}
 use Rattle.edit.specs.declared.Moved.the-variants as moved
 use Rattle.edit.specs.declared.listed.Listed.{Listed}
 use Rattle.edit.specs.declared.listed.Listed.the-variants as listed
+use Rattle.edit.specs.declared.placing.Placed.{Placed}
+use Rattle.edit.specs.declared.placing.Placed.the-variants as placed
 use Rattle.edit.specs.declared.origins.OctetOrigin.{OctetOrigin}
 use Rattle.edit.specs.declared.origins.OctetOrigin.the-variants as origin
 
@@ -43,3 +46,8 @@ originMeaning origin.Filler = gives filler
 originMeaning origin.Zeroed = gives zeroed
 originMeaning origin.Untouched = gives untouched
 originMeaning (origin.Refused fault) = faultOf fault
+
+abbrev pub placedMeaning : Placed → Answer Place
+placedMeaning (placed.Dump at) = gives (inDump at)
+placedMeaning (placed.Bytes at) = gives (inBytes at)
+placedMeaning (placed.Refused fault) = faultOf fault

@@ -3,7 +3,7 @@ ghost use mathlib.Core.Path.{_≡_};
 ghost use Rattle.ump.specs.Packet.{sysex8};
 ghost use Rattle.ump.specs.Edits.{spliceAll};
 ghost use Rattle.splice.specs.Meaning.{splicedMeaning};
-ghost use Rattle.splice.specs.Accepted.{Accepted};
+ghost use Rattle.message.specs.Accepted.{Accepted};
 use crate::Edit;
 use crate::listed::Listed;
 use message::sysex8::Checked;

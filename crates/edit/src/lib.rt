@@ -1,4 +1,5 @@
-// Edits of a payload: growth, moving a pending edit past a done one, all edits of a list at once, and where an octet then comes from.
+// Edits of a payload: growth, moving a pending edit past a done one, all edits of a list at once, and where an octet or a byte then
+// comes from.
 ghost use mathlib.Core.Path.{_≡_};
 ghost use Prim.Native.Nat.{_≤_};
 ghost use Rattle.ump.specs.Limits.{mostBytes};
@@ -11,12 +12,15 @@ use refusal::Refusal;
 mod all;
 mod listed;
 mod origins;
+mod placing;
 
 pub use all::splice_all;
 pub use origins::EditByte;
 pub use origins::HeaderOctet;
 pub use origins::OctetOrigin;
 pub use origins::origin;
+pub use placing::Placed;
+pub use placing::place;
 
 // An edit is from, to and replacement length.
 pub struct Edit {
@@ -51,7 +55,7 @@ fn fault(refusal: Refusal) -> Fault
 }
 
 // Whether an edit is reversed, or a number within it is above the most bytes.
-fn is_bad(edit: Edit) -> bool
+pub fn is_bad(edit: Edit) -> bool
     ensures { λ r. ⌜ r ≡ badEdit (editMeaning edit) ⌝ }
 {
     if edit.to < edit.from {

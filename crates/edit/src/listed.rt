@@ -1,12 +1,13 @@
 // Checks of a list of edits that is lent as numbers: from, to and replacement length of each.
 ghost use mathlib.Core.Path.{_≡_};
-ghost use mathlib.Core.Bool.{not, false};
+ghost use mathlib.Core.Bool.{not};
 ghost use Prim.Native.Nat.{_+_, _/_, _^_, _<_};
 ghost use lib.Dec.{eqb};
 ghost use lib.ListN.{length};
-ghost use Rattle.ump.specs.Edits.{lengths, someBad, someOverlap, perEdit, editIn, editsOf};
+ghost use Rattle.ump.specs.Edits.{lengths, someBad, perEdit, editIn, editsOf};
+ghost use Rattle.message.specs.Scan.{Explains};
 ghost use Rattle.edit.specs.Meaning.{editMeaning, sizeMeaning};
-ghost use Rattle.edit.specs.Listed.{sizeAfter, listed};
+ghost use Rattle.edit.specs.Listed.{listCheck, outOfTurn, cutFound, listed};
 use crate::Edit;
 use refusal::Fault;
 use refusal::Refusal;
@@ -70,41 +71,64 @@ fn lengths_differ(numbers: &[usize], bytes: usize) -> bool
     left != 0
 }
 
-// Whether an edit begins before the end of the one before it.
-fn some_overlap(numbers: &[usize]) -> bool
-    ensures { λ r. ⌜ r ≡ someOverlap 0 (editsOf (now (numbers .entry))) ⌝ }
+// Whether an edit is bad or past a payload of `size` bytes, has more bytes than are left, or begins before the one before it ends.
+fn is_out(edit: Edit, size: usize, left: usize, end: usize) -> bool
+    ensures { λ r. ⌜ r ≡ outOfTurn size left end (editMeaning edit) ⌝ }
 {
-    let count = numbers.len() / NUMBERS;
-    let mut end = 0;
-    let mut index = 0;
-    while index < count {
-        let edit = edit_at(numbers, index);
-        if edit.from < end {
-            return true;
-        }
-        end = edit.to;
-        index += 1;
+    if crate::is_bad(edit) {
+        return true;
     }
-    false
+    if edit.to > size {
+        return true;
+    }
+    if edit.length > left {
+        return true;
+    }
+    edit.from < end
 }
 
-// The size of the result: the bytes between the ranges and behind the last, and the replacement bytes.
-fn size_after(numbers: &[usize], size: usize, bytes: usize) -> usize
-    requires { ⌜ (someBad size (editsOf (now numbers)) ≡ false) × (someOverlap 0 (editsOf (now numbers)) ≡ false)
-        × (bytes ≡ lengths (editsOf (now numbers))) × (size + bytes < 2 ^ 64) ⌝ }
-    ensures { λ r. ⌜ r ≡ sizeAfter size (editsOf (now (numbers .entry))) ⌝ }
+// One walk over the edits: one more than the bytes that they take out of a payload of `size` bytes; 0 if the list is refused.
+pub(crate) fn cut_found(numbers: &[usize], size: usize, bytes: usize) -> usize
+    ensures { λ r. ⌜ r ≡ cutFound size bytes (now (numbers .entry)) ⌝ }
 {
+    if numbers.len() % NUMBERS != 0 {
+        return 0;
+    }
     let count = numbers.len() / NUMBERS;
-    let mut kept = 0;
+    let mut left = bytes;
     let mut end = 0;
+    let mut cut = 0;
     let mut index = 0;
     while index < count {
         let edit = edit_at(numbers, index);
-        kept += edit.from - end;
+        if is_out(edit, size, left, end) {
+            return 0;
+        }
+        cut += edit.to - edit.from;
+        left -= edit.length;
         end = edit.to;
         index += 1;
     }
-    kept + (size - end) + bytes
+    if left != 0 {
+        return 0;
+    }
+    cut + 1
+}
+
+// Why a list is refused: Range, and Overlap where that is all that is wrong.
+pub(crate) fn why(numbers: &[usize], size: usize, bytes: usize) -> Fault
+    ensures { λ r. ⌜ Explains (listCheck size bytes (now (numbers .entry))) r ⌝ }
+{
+    if numbers.len() % NUMBERS != 0 {
+        return crate::fault(Refusal::Range);
+    }
+    if some_bad(numbers, size) {
+        return crate::fault(Refusal::Range);
+    }
+    if lengths_differ(numbers, bytes) {
+        return crate::fault(Refusal::Range);
+    }
+    crate::fault(Refusal::Overlap)
 }
 
 // The checks of a list of edits of a payload of `size` bytes, Range then Overlap, and the size of the result.
@@ -112,17 +136,9 @@ pub(crate) fn check_list(numbers: &[usize], size: usize, bytes: usize) -> Listed
     requires { ⌜ size + bytes < 2 ^ 64 ⌝ }
     ensures { λ r. ⌜ sizeMeaning r ≡ listed size bytes (now (numbers .entry)) ⌝ }
 {
-    if numbers.len() % NUMBERS != 0 {
-        return Listed::Refused(crate::fault(Refusal::Range));
+    let found = cut_found(numbers, size, bytes);
+    if found == 0 {
+        return Listed::Refused(why(numbers, size, bytes));
     }
-    if some_bad(numbers, size) {
-        return Listed::Refused(crate::fault(Refusal::Range));
-    }
-    if lengths_differ(numbers, bytes) {
-        return Listed::Refused(crate::fault(Refusal::Range));
-    }
-    if some_overlap(numbers) {
-        return Listed::Refused(crate::fault(Refusal::Overlap));
-    }
-    Listed::Size(size_after(numbers, size, bytes))
+    Listed::Size(size - (found - 1) + bytes)
 }

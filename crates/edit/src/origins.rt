@@ -1,15 +1,16 @@
 // Where an octet of the words lent comes from, if all edits of a list are done at once.
 ghost use mathlib.Core.Path.{_≡_};
 ghost use mathlib.Core.Bool.{false};
-ghost use Prim.Native.Nat.{_<_};
+ghost use Prim.Native.Nat.{_^_, _<_};
 ghost use Rattle.refusal.specs.Answer.{gives};
 ghost use Rattle.ump.specs.Packet.{sysex8};
-ghost use Rattle.ump.specs.Edits.{editsOf, someBad, someOverlap};
+ghost use Rattle.ump.specs.Edits.{editsOf, someBad, someOverlap, lengths};
 ghost use Rattle.ump.specs.Runs.{runAt};
 ghost use Rattle.ump.specs.Origin.{beginning, originOf, origin as originFor};
-ghost use Rattle.splice.specs.Accepted.{Accepted};
+ghost use Rattle.message.specs.Accepted.{Accepted};
 ghost use Rattle.edit.specs.Meaning.{originMeaning};
 use crate::listed::Listed;
+use crate::placing::Standing;
 use message::sysex8::Checked;
 use refusal::Fault;
 use refusal::Refusal;
@@ -50,39 +51,27 @@ const HEADER: usize = 3;
 // Payload bytes that a packet has room for.
 const ROOM: usize = 13;
 
-// Byte `position` of the result, of a list that passed its checks. One walk over the edits: `left` is the position behind those
-// passed, the last of which ends at `end`.
+// Byte `position` of the result, of a list that passed its checks.
 fn byte_origin(numbers: &[usize], size: usize, position: usize) -> OctetOrigin
-    requires { ⌜ (someBad size (editsOf (now numbers)) ≡ false) × (someOverlap 0 (editsOf (now numbers)) ≡ false) ⌝ }
+    requires { ⌜ (someBad size (editsOf (now numbers)) ≡ false) × (someOverlap 0 (editsOf (now numbers)) ≡ false)
+        × (lengths (editsOf (now numbers)) < 2 ^ 64) ⌝ }
     ensures { λ r. ⌜ originMeaning r ≡ gives (beginning (runAt size (editsOf (now (numbers .entry))) position)) ⌝ }
 {
-    let count = numbers.len() / crate::listed::NUMBERS;
-    let mut end = 0;
-    let mut left = position;
-    let mut index = 0;
-    while index < count {
-        let edit = crate::listed::edit_at(numbers, index);
-        let gap = edit.from - end;
-        if left < gap {
-            return OctetOrigin::Dump(end + left);
-        }
-        let byte = left - gap;
-        if byte < edit.length {
-            return OctetOrigin::Edit(EditByte { edit: index, byte });
-        }
-        left = byte - edit.length;
-        end = edit.to;
-        index += 1;
+    let stands = crate::placing::find_byte(numbers, size, position);
+    match stands {
+        Standing::Dump(byte) => OctetOrigin::Dump(byte),
+        Standing::Edit(replacement) => OctetOrigin::Edit(EditByte {
+            edit: replacement.edit,
+            byte: replacement.byte,
+        }),
+        Standing::Past => OctetOrigin::Filler,
     }
-    if left < size - end {
-        return OctetOrigin::Dump(end + left);
-    }
-    OctetOrigin::Filler
 }
 
 // Octet `octet` of the message with all edits of a list that passed its checks.
 fn octet_origin(numbers: &[usize], size: usize, octet: usize) -> OctetOrigin
-    requires { ⌜ (someBad size (editsOf (now numbers)) ≡ false) × (someOverlap 0 (editsOf (now numbers)) ≡ false) × (octet < 65536) ⌝ }
+    requires { ⌜ (someBad size (editsOf (now numbers)) ≡ false) × (someOverlap 0 (editsOf (now numbers)) ≡ false)
+        × (lengths (editsOf (now numbers)) < 2 ^ 64) × (octet < 65536) ⌝ }
     ensures { λ r. ⌜ originMeaning r ≡ gives (originOf sysex8 size (editsOf (now (numbers .entry))) octet) ⌝ }
 {
     let packet = octet / PACKET;

@@ -1,10 +1,13 @@
 // SysEx8 messages: the check, payload bytes, and the setters.
 ghost use mathlib.Core.Path.{_≡_};
+ghost use Prim.Native.Nat.{_<_};
+ghost use lib.ListN.{getD};
 ghost use Rattle.ump.specs.Packet.{sysex8};
 ghost use Rattle.refusal.specs.Meaning.{storedMeaning, byteMeaning};
-ghost use Rattle.ump.specs.Check.{check, checked};
+ghost use Rattle.ump.specs.Check.{check, checked, payloadOf};
 ghost use Rattle.ump.specs.Setters.{getByte, copyPayload, setGroup, setId, setByte};
 ghost use Rattle.message.specs.Meaning.{checkMeaning8, copiedMeaning};
+ghost use Rattle.message.specs.Accepted.{Accepted};
 ghost use Rattle.message.specs.Scan.{sizeFound, Explains};
 use crate::scan::SYSEX8;
 use crate::scan::in_order;
@@ -69,6 +72,15 @@ pub enum Copied {
     Refused(Fault),
 }
 
+// Payload byte `index` of a message that passed the check, of `size` bytes.
+pub fn byte_of(words: &[u32], length: usize, size: usize, index: usize) -> u8
+    requires { ⌜ Accepted (now words) length size × (index < size) ⌝ }
+    ensures { λ r. ⌜ r ≡ getD (payloadOf sysex8 (now (words .entry)) length) index 0 ⌝ }
+{
+    let place = crate::bytes::place_of(words, length / 4, size, index);
+    crate::bytes::byte_at(words, place.packet, place.byte)
+}
+
 // Payload byte `index` of the message: the check's refusals, then Range.
 pub fn byte(words: &[u32], length: usize, index: usize) -> ByteRead
     ensures { λ r. ⌜ byteMeaning r ≡ getByte sysex8 (now (words .entry)) length index ⌝ }
@@ -84,8 +96,7 @@ pub fn byte(words: &[u32], length: usize, index: usize) -> ByteRead
             place: 0,
         });
     }
-    let place = crate::bytes::place_of(words, length / 4, size, index);
-    ByteRead::Value(crate::bytes::byte_at(words, place.packet, place.byte))
+    ByteRead::Value(byte_of(words, length, size, index))
 }
 
 // Copies the payload to the bytes lent: the check's refusals, then Room where they are too few; bytes past it stay.

@@ -16,7 +16,7 @@ use Rattle.store.proofs.Parts.{patches-edit, patches-stop}
 use Rattle.chain.specs.Restore.{outside}
 use Rattle.chain.specs.declared.edits.Reached.{Reached}
 use Rattle.chain.proofs.Outside.{or-false}
-use Rattle.chain.proofs.Replay.{replay, replaced-is}
+use Rattle.ump.proofs.Replay.{replay, replaced-is}
 use Rattle.restore.specs.Laying.{Copied, Ran, Filling}
 use Rattle.restore.specs.declared.restoring.Run.{Run}
 use Rattle.restore.specs.declared.restoring.Run.the-variants as run

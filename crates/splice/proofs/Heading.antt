@@ -19,7 +19,8 @@ use Rattle.flow.specs.Flowing.{flowWord, numberWord}
 use Rattle.flow.specs.Heads.{innerHead}
 use Rattle.flow.proofs.Digits.{val-take}
 use Rattle.flow.proofs.Puts.{put-is}
-use Rattle.splice.specs.Accepted.{Accepted, Full}
+use Rattle.message.specs.Accepted.{Accepted}
+use Rattle.splice.specs.Accepted.{Full}
 use Rattle.splice.specs.Header.{baseOf, withHead, leveled}
 use Rattle.merge.specs.Thirteens.{body}
 use Rattle.merge.specs.Pieces.{Stands}

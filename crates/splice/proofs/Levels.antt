@@ -10,7 +10,8 @@ use Rattle.ump.proofs.First.{Side, under, over, side}
 use Rattle.ump.proofs.Sizes.{size-small}
 use Rattle.ump.proofs.Message.{length-payload}
 use Rattle.ump.proofs.Payload.{payload-more}
-use Rattle.splice.specs.Accepted.{Accepted, Full}
+use Rattle.message.specs.Accepted.{Accepted}
+use Rattle.splice.specs.Accepted.{Full}
 use Rattle.splice.proofs.Messages.{inside, there, size-is}
 
 module _ {w : List ℕ} {len n : ℕ} (ok : Accepted w len n) (full : Full w len) where

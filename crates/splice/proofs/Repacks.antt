@@ -18,7 +18,7 @@ use Rattle.flow.specs.Flowing.{Poured}
 use Rattle.flow.specs.Heads.{baseFor, innerHead}
 use Rattle.flow.proofs.Flowing.{flow-start, flow-step}
 use Rattle.flow.proofs.Poured.{flow-end}
-use Rattle.splice.specs.Accepted.{Accepted}
+use Rattle.message.specs.Accepted.{Accepted}
 use Rattle.splice.specs.Header.{baseOf, finished}
 use Rattle.merge.specs.Thirteens.{body, frontOf}
 use Rattle.merge.specs.Pieces.{none, taken, Reaches, Appends, Flows, Flushed}

@@ -15,7 +15,7 @@ use Rattle.ump.proofs.Bytes.{length-payloadAt}
 use Rattle.ump.proofs.Payload.{payload-more, payload-mono}
 use Rattle.ump.proofs.Joined.{joined-around}
 use Rattle.flow.specs.Digits.{val}
-use Rattle.splice.specs.Accepted.{Accepted}
+use Rattle.message.specs.Accepted.{Accepted}
 use Rattle.merge.specs.Thirteens.{body, frontOf}
 use Rattle.splice.proofs.Messages.{there}
 use Rattle.merge.proofs.Bodies.{below-body, body-agree}

@@ -12,7 +12,7 @@ use Rattle.ump.specs.Edits.{Edit, Apart, editIn, editsOf, lengths, patchesOf, p
 use Rattle.flow.specs.Flowing.{Poured}
 use Rattle.merge.specs.Pieces.{Stands}
 use Rattle.merge.specs.Pass.{width}
-use Rattle.splice.specs.Accepted.{Accepted}
+use Rattle.message.specs.Accepted.{Accepted}
 
 -- no first edits of the list grow the payload by more than so many bytes, where so many are put in and taken out before
 unfoldable pub Within : ℕ → ℕ → ℕ → List Edit → Type 0

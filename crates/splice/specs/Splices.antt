@@ -4,7 +4,7 @@ use Prim.Native.Nat.{ℕ, _+_, _-_, _≤_}
 use lib.ListN.{length}
 use Rattle.ump.specs.Packet.{sysex8}
 use Rattle.ump.specs.Packing.{wordsFor}
-use Rattle.splice.specs.Accepted.{Accepted}
+use Rattle.message.specs.Accepted.{Accepted}
 
 -- the size of the new payload
 abbrev pub newSize : ℕ → ℕ → ℕ → List ℕ → ℕ

@@ -6,7 +6,7 @@ ghost use Rattle.ump.specs.Packet.{sysex8};
 ghost use Rattle.ump.specs.Packing.{wordsFor};
 ghost use Rattle.ump.specs.Check.{payloadOf};
 ghost use Rattle.ump.specs.Splice.{rewritten};
-ghost use Rattle.splice.specs.Accepted.{Accepted};
+ghost use Rattle.message.specs.Accepted.{Accepted};
 ghost use Rattle.splice.specs.Header.{finished};
 ghost use Rattle.splice.specs.Zeros.{zeroed};
 use super::header::base_of;

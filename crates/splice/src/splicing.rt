@@ -4,7 +4,7 @@ ghost use Rattle.ump.specs.Packet.{sysex8};
 ghost use Rattle.ump.specs.Packing.{wordsFor};
 ghost use Rattle.ump.specs.Check.{payloadOf};
 ghost use Rattle.ump.specs.Splice.{spliced, rewritten};
-ghost use Rattle.splice.specs.Accepted.{Accepted};
+ghost use Rattle.message.specs.Accepted.{Accepted};
 ghost use Rattle.splice.specs.Splices.{Possible, newSize};
 use super::packing::pack;
 use super::replacing::is_full;

@@ -10,6 +10,7 @@ pub mod Checks
 pub mod Message
 pub mod Depends
 pub mod Replace
+pub mod Replay
 pub mod Signed
 pub mod Splicing
 pub mod Moving

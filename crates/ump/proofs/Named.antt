@@ -42,7 +42,7 @@ packets-named shape words n =
     (by-both _ _ (by-sweep shape (λ p. 10) (badCount shape words) n (λ p place. named Count))
     (by-both _ _ (by-sweep shape (λ p. 11) (badGroup shape words) n (λ p place. named Group)) (by-sweep shape (λ p. 12) (badId shape words) n (λ p place. named Stream)))))
 
-check-named : (shape : Shape) (words : List ℕ) (len : ℕ) → Named (check shape words len)
+pub check-named : (shape : Shape) (words : List ℕ) (len : ℕ) → Named (check shape words len)
 unfolding check
 check-named shape words len =
     by-both _ _ (by-guard (ltb mostWords (length words)) Long 0)

@@ -384,7 +384,7 @@ rewritten-traced shape words len patches passes apart small room =
 abbrev pub single : ℕ → ℕ → List ℕ → List Patch
 single from to bytes = record { from = from; to = to; bytes = bytes } ∷ []
 
-replaced-single : (old : List ℕ) (from to : ℕ) (bytes : List ℕ) → replaced old (single from to bytes) ≡ spliced old from to bytes
+pub replaced-single : (old : List ℕ) (from to : ℕ) (bytes : List ℕ) → replaced old (single from to bytes) ≡ spliced old from to bytes
 unfolding replaced joined
 replaced-single old from to bytes = append-assoc (take from old) bytes (drop to old)
 
@@ -393,7 +393,7 @@ only : (P : ℕ → Type 0) → P 0 → (i : ℕ) → i < 1 → P i
 only P x zero h = x
 only P x (suc i) h = absurd (omega arith)
 
-single-apart : (from to n : ℕ) (bytes : List ℕ) → from ≤ to → to ≤ n → Apart (single from to bytes) n
+pub single-apart : (from to n : ℕ) (bytes : List ℕ) → from ≤ to → to ≤ n → Apart (single from to bytes) n
 single-apart from to n bytes h k =
     record {
       after = only (λ j. endBefore (single from to bytes) j ≤ patchAt (single from to bytes) j .from) (omega arith);

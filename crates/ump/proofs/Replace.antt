@@ -289,7 +289,7 @@ pub or-right-true : (a b : Bool) → b ≡ true → (a || b) ≡ true
 or-right-true true b e = refl
 or-right-true false b e = e
 
-or-left-true : (a b : Bool) → a ≡ true → (a || b) ≡ true
+pub or-left-true : (a b : Bool) → a ≡ true → (a || b) ≡ true
 or-left-true true b e = refl
 or-left-true false b e = cc
 

@@ -12,12 +12,13 @@ use Rattle.ump.specs.Single.{withGroup}
 
 -- ---- payload bytes
 
+-- byte i of a payload: Range
+abbrev pub nthByte : List ℕ → ℕ → Answer ℕ
+nthByte bytes i = guard (leb (length bytes) i) 13 0 ▷ gives (getD bytes i 0)
+
 -- byte i of the message: 1 to 12, then Range
 unfoldable pub getByte : Shape → List ℕ → ℕ → ℕ → Answer ℕ
-getByte shape words len i =
-    check shape words len
-    ▷ guard (leb (length (payloadOf shape words len)) i) 13 0
-    ▷ gives (getD (payloadOf shape words len) i 0)
+getByte shape words len i = check shape words len ▷ nthByte (payloadOf shape words len) i
 
 -- the payload copied to lent bytes: 1 to 12, then Room; answers its size; bytes past it stay
 unfoldable pub copyPayload : Shape → List ℕ → ℕ → List ℕ → Answer ℕ × List ℕ

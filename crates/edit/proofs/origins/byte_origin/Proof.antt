@@ -1,61 +1,35 @@
--- `edit::origins::byte_origin`: what is left of the position, at each edit. Assumes nothing.
+-- `edit::origins::byte_origin`: where the byte stands. Assumes nothing.
 use borrow.Author.Needs.{needs}
-use Prim.Native.Nat.{_-_, _≤_}
-use native.Mathlib.Omega.{arith}
-use Rattle.edit.proofs.Lists.{kept-after, kept-inside}
-use Rattle.edit.proofs.Walking.{Walk, walk-all, walk-gap, walk-here, walk-on, walk-tail, walk-past}
+use mathlib.Core.Path.{_≡_, sym, ap, subst}
+use Rattle.refusal.specs.Answer.{gives}
+use Rattle.ump.specs.Edits.{editsOf}
+use Rattle.edit.specs.Placed.{Stands}
+use Rattle.edit.specs.declared.placing.Standing.{Standing}
 use Rattle.edit.proofs.origins.byte_origin.Statement.{statement}
 use Rattle.edit.proofs.origins.byte_origin.Tie as tie
 
-abbrev Inv-loop : tie.InvT-loop
-Inv-loop numbers size position count end₀ left₀ index₀ end left index = Walk numbers size position end left index
+-- what is found, by the case that it is
+stands : (c : tie.After-find-byte) {found : Standing} → c .find-byte .result ≡ found → let a = c .before .before .args in
+    Stands (a .size) (editsOf (a .numbers .now)) (a .position) found
+stands c e = let a = c .before .before .args in subst (Stands (a .size) (editsOf (a .numbers .now)) (a .position)) e (c .find-byte .ensures)
 
-abbrev μ-loop : tie.MeasureT-loop
-μ-loop numbers size position count end₀ left₀ index₀ end left index = count - index
+returns : tie.Need-returns
+returns c = let k = c .before in sym (ap gives (stands (k .before .before) (k .stands .given .1)))
 
-after : tie.Need-sub-gap Inv-loop μ-loop
-after c = let l = c .before .before in kept-after (l .before .loop .inv .ranges) (l .loop-test .taken) (c .before .edit-at .ensures)
+returns-2 : tie.Need-returns-2
+returns-2 c = let k = c .before in sym (ap gives (stands (k .before .before) (k .stands2 .given .1) .0))
 
-inside : (c : tie.After-struct-known Inv-loop μ-loop) → c .before .edit-at .result .from ≤ c .before .before .before .before .before .args .size
-inside c = let l = c .before .before in kept-inside (l .before .loop .inv .ranges) (l .loop-test .taken) (c .before .edit-at .ensures)
-
-returns : tie.Need-returns Inv-loop μ-loop
-returns c =
-    let k = c .before in
-    let l = k .before .before in
-    walk-gap (l .before .loop .inv) (l .loop-test .taken) (k .before .edit-at .ensures) (c .if1 .taken)
-
-returns-2 : tie.Need-returns-2 Inv-loop μ-loop
-returns-2 c =
-    let o = c .before .before in
-    let k = o .before in
-    let l = k .before .before in
-    walk-here (l .before .loop .inv) (l .loop-test .taken) (k .before .edit-at .ensures) (o .if1 .left) (c .if2 .taken)
-
-loop-again : tie.Need-loop-again Inv-loop μ-loop
-loop-again c =
-    let t = c .before in
-    let o = t .before .before in
-    let k = o .before in
-    let l = k .before .before in
-    walk-on (l .before .loop .inv) (l .loop-test .taken) (k .before .edit-at .ensures) (o .if1 .left) (t .if2 .left)
+returns-3 : tie.Need-returns-3
+returns-3 c = sym (ap gives (stands (c .before .before) (c .enum-told .given .1)))
 
 pub byte-origin-spec : {M : Type 1} → statement M
 byte-origin-spec =
     tie.close
     (tie.spec
-    Inv-loop
-    μ-loop
-    (λ c. walk-all _ _ _ (c .before .pre .0) (c .before .pre .1))
     (λ c κs. search needs)
-    after
-    (λ c. omega (arith, inside (c .before)))
+    (λ c. search needs)
+    (λ c. search needs)
+    (λ c. search needs)
     returns
     returns-2
-    (λ c. search needs)
-    (λ c. search needs)
-    loop-again
-    (λ c. c .before .loop .inv .ranges .inside)
-    (λ c. search needs)
-    (λ c. walk-tail (c .before .before .loop .inv) (c .before .loop-test .left) (c .if3 .taken))
-    (λ c. walk-past (c .before .before .loop .inv) (c .before .loop-test .left) (c .if3 .left)))
+    returns-3)

@@ -5,6 +5,7 @@ use native.Mathlib.Omega.{arith}
 use lib.ListN.{length}
 use Rattle.refusal.specs.Answer.{gives, pass}
 use Rattle.refusal.specs.Meaning.{faultOf}
+use Rattle.refusal.proofs.Laws.{given-passes}
 use Rattle.ump.specs.Packet.{sysex8}
 use Rattle.ump.specs.Packing.{wordsFor}
 use Rattle.ump.specs.Check.{payloadOf}
@@ -12,7 +13,7 @@ use Rattle.ump.specs.Edits.{editsOf, patchesOf, replaced, allChecks}
 use Rattle.ump.proofs.Asking.{asked-refused}
 use Rattle.splice.proofs.Messages.{inside, size-fits}
 use Rattle.edit.specs.Meaning.{sizeMeaning}
-use Rattle.edit.specs.Listed.{listed}
+use Rattle.edit.specs.Listed.{listCheck, listed}
 use Rattle.edit.proofs.Lists.{list-passes}
 use Rattle.edit.proofs.AtOnceCases.{checks-listed, checks-room, checks-pass, new-sized}
 use Rattle.edit.proofs.Walking.{origin-behind, origin-message, origin-zeroed, origin-untouched}
@@ -40,8 +41,8 @@ needed c = c .words-needed .ensures ∙ sym (ap (wordsFor sysex8) (new-sized _ _
 octet-origin-requires : tie.Need-octet-origin-requires
 octet-origin-requires c κs =
     let n = c .before .before .before in
-    let l = list-passes _ _ _ (given n) in
-    (l .good, l .apart, omega (arith, inside (start n .pre), c .before .if2 .left))
+    let l = list-passes _ _ _ (given-passes (listCheck _ _ _) (given n) .0) in
+    (l .good, l .apart, omega (arith, l .all-bytes, start n .good .1 .1 .1 .1 .0), omega (arith, inside (start n .pre), c .before .if2 .left))
 
 returns : tie.Need-returns
 returns c =

@@ -1,23 +1,17 @@
--- `message::sysex8::byte`: the check, then Range, then the byte where it stands. Assumes nothing.
+-- `message::sysex8::byte`: the check, then Range, then the byte. Assumes nothing.
 use borrow.Author.Needs.{needs}
-use mathlib.Core.Path.{ap, sym, _∙_}
+use mathlib.Core.Path.{ap}
 use Prim.Native.Nat.{_-_}
 use borrow.Author.Tests.{le-leb, lt-leb}
 use Rattle.refusal.specs.Answer.{gives}
 use Rattle.ump.specs.Packet.{sysex8}
 use Rattle.ump.specs.Setters.{getByte}
 use Rattle.message.proofs.Checked.{Taken, found-none, found-taken}
-use Rattle.message.proofs.Places.{Standing, sized, standing}
 use Rattle.message.proofs.sysex8.byte.Statement.{statement}
 use Rattle.message.proofs.sysex8.byte.Tie as tie
 
 message : (c : tie.Else1) → let d = c .before .before .before in Taken sysex8 (d .args .words .now) (d .args .length) (c .before .size-found .result - 1)
 message c = found-taken sysex8 _ _ (c .before .size-found .ensures) (c .if1 .left)
-
--- the byte is where it was found
-stands : (c : tie.After-place-of) → let d = c .before .before .before .before .before in
-    Standing (d .args .words .now) (d .args .length) (d .args .index) (c .place-of .result .packet) (c .place-of .result .byte)
-stands c = let e = c .before in standing (message (e .before)) (e .if2 .left) (c .place-of .ensures)
 
 returns : tie.Need-returns
 unfolding getByte
@@ -30,10 +24,9 @@ returns-2 c = let m = message (c .before) in rw (m .passes, ← (m .sized), le-l
 returns-3 : tie.Need-returns-3
 unfolding getByte
 returns-3 c =
-    let l = c .before in
-    let e = l .before in
+    let e = c .before in
     let m = message (e .before) in
-    rw (m .passes, ← (m .sized), lt-leb _ _ (e .if2 .left)) (ap gives (c .byte-at .ensures ∙ sym (stands l .reads)))
+    rw (m .passes, ← (m .sized), lt-leb _ _ (e .if2 .left)) (ap gives (c .byte-of .ensures))
 
 pub byte-spec : {M : Type 1} → statement M
 byte-spec =
@@ -44,6 +37,5 @@ byte-spec =
     returns
     (λ c. search needs)
     returns-2
-    (λ c κs. (sized (message (c .before)), c .if2 .left))
-    (λ c κs. let s = stands c in (s .there, s .few, s .inner))
+    (λ c κs. let m = message (c .before) in (record { passes = m .passes; sized = m .sized }, c .if2 .left))
     returns-3)

@@ -1,0 +1,11 @@
+pub mod Nth
+pub mod Named
+pub mod Right
+pub mod Longest
+pub mod Finding
+pub mod Bytes
+pub mod Unique
+pub mod ShutOut
+pub mod Looking
+pub mod Calls
+pub mod Promises

@@ -1,0 +1,13 @@
+-- What the answer of finding a run means: document 01's number and place, or the run.
+-- Assumes nothing.
+use Rattle.refusal.specs.Answer.{Answer, gives}
+use Rattle.refusal.specs.Meaning.{faultOf}
+use Rattle.ump.specs.Runs.{Run, ofDump, ofEdit}
+use Rattle.look.specs.declared.Found.{Found}
+use Rattle.look.specs.declared.Found.the-variants as found
+
+abbrev pub foundMeaning : Found → Answer Run
+foundMeaning (found.Before part) = gives (ofDump 0 (part .start) (part .end))
+foundMeaning (found.Within part) = gives (ofEdit 0 (part .start) (part .end))
+foundMeaning (found.Behind part) = gives (ofDump 1 (part .start) (part .end))
+foundMeaning (found.Refused fault) = faultOf fault

@@ -1,0 +1,9 @@
+pub mod Data
+pub mod Edits
+pub mod Steps
+pub mod Answering
+pub mod Unique
+pub mod ShutOut
+pub mod Comparing
+pub mod Calls
+pub mod Promises

@@ -4,7 +4,7 @@
 use mathlib.Core.Bool.{Bool, true, false}
 use mathlib.Core.Option.{Option, none, some}
 use mathlib.Core.List.{List}
-use Prim.Native.Nat.{ℕ}
+use Prim.Native.Nat.{ℕ, _*_}
 use lib.IntN.{ℤ, pos}
 use lib.ListN.{getD}
 use Rattle.refusal.specs.Answer.{Answer, gives, refused, Verdict}
@@ -12,6 +12,7 @@ use Rattle.ump.specs.Single as single
 use Rattle.ump.specs.Check.{Summary}
 use Rattle.ump.specs.Splice.{Spliced}
 use Rattle.ump.specs.Edits.{Range}
+use Rattle.ump.specs.Runs.{Run, ofDump, ofEdit, past}
 use Rattle.ump.specs.Origin.{Origin, headerOctet, carried, dumpByte, editByte, filler, zeroed, untouched}
 use Rattle.ump.specs.Reader as paper
 use Rattle.chain.specs.Restore.{Description}
@@ -22,6 +23,7 @@ use Rattle.answers.specs.declared.ChangeAnswer.{ChangeAnswer}
 use Rattle.answers.specs.declared.GrowthAnswer.{GrowthAnswer}
 use Rattle.answers.specs.declared.RangeAnswer.{RangeAnswer}
 use Rattle.answers.specs.declared.OriginAnswer.{OriginAnswer}
+use Rattle.answers.specs.declared.RunAnswer.{RunAnswer}
 use Rattle.answers.specs.declared.CursorAnswer.{CursorAnswer}
 use Rattle.answers.specs.declared.ReadAnswer.{ReadAnswer}
 use Rattle.answers.specs.declared.DumpAnswer.{DumpAnswer}
@@ -85,6 +87,16 @@ originAnswer (gives filler) = originStruct 3 0 0
 originAnswer (gives zeroed) = originStruct 4 0 0
 originAnswer (gives untouched) = originStruct 5 0 0
 originAnswer (refused number place) = record { refusal = number; place = place; kind = 0; number = 0; index = 0 }
+
+-- a part of a source, by its number: the payload before the edit, the replacement, the payload behind the edit
+abbrev pub runStruct : ℕ → ℕ → ℕ → RunAnswer
+runStruct source start end = record { refusal = 0; place = 0; source = source; start = start; end = end }
+
+abbrev pub runAnswer : Answer Run → RunAnswer
+runAnswer (gives (ofDump k start end)) = runStruct (2 * k) start end
+runAnswer (gives (ofEdit k start end)) = runStruct 1 start end
+runAnswer (gives past) = runStruct 0 0 0
+runAnswer (refused number place) = record { refusal = number; place = place; source = 0; start = 0; end = 0 }
 
 abbrev pub cursorAnswer : Answer paper.Cursor → CursorAnswer
 cursorAnswer (gives cursor) =

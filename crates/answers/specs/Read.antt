@@ -7,12 +7,14 @@ use lib.Dec.{eqb}
 use Rattle.refusal.specs.Answer.{Answer, gives, refused, Verdict}
 use Rattle.ump.specs.Splice.{Spliced}
 use Rattle.ump.specs.Edits.{Range}
+use Rattle.ump.specs.Runs.{Run, ofDump, ofEdit}
 use Rattle.ump.specs.Origin.{Origin, headerOctet, carried, dumpByte, editByte, filler, zeroed, untouched}
 use Rattle.chain.specs.Restore.{Description}
 use Rattle.answers.specs.declared.NumberAnswer.{NumberAnswer}
 use Rattle.answers.specs.declared.ChangeAnswer.{ChangeAnswer}
 use Rattle.answers.specs.declared.RangeAnswer.{RangeAnswer}
 use Rattle.answers.specs.declared.OriginAnswer.{OriginAnswer}
+use Rattle.answers.specs.declared.RunAnswer.{RunAnswer}
 use Rattle.answers.specs.declared.DumpAnswer.{DumpAnswer}
 
 -- a value, refused where the number is not 0
@@ -40,6 +42,13 @@ originRead said =
     (cond (eqb (said .kind) 1) (carried (dumpByte (said .index)))
     (cond (eqb (said .kind) 2) (carried (editByte (said .number) (said .index)))
     (cond (eqb (said .kind) 3) filler (cond (eqb (said .kind) 4) zeroed untouched)))))
+
+-- a run by the number of its source
+abbrev pub runRead : RunAnswer → Answer Run
+runRead said =
+    readAs (said .refusal) (said .place)
+    (cond (eqb (said .source) 0) (ofDump 0 (said .start) (said .end))
+    (cond (eqb (said .source) 1) (ofEdit 0 (said .start) (said .end)) (ofDump 1 (said .start) (said .end))))
 
 -- the struct of a dump, read
 abbrev pub dumpRead : DumpAnswer → Answer Description

@@ -7,6 +7,7 @@ ghost use Rattle.packet.specs.Meaning.{kindMeaning, packetMeaning8, packetMeani
 ghost use Rattle.message.specs.Meaning.{checkMeaning8, checkMeaning7, copiedMeaning};
 ghost use Rattle.splice.specs.Meaning.{repackedMeaning, splicedMeaning};
 ghost use Rattle.edit.specs.Meaning.{grownMeaning, movedMeaning, originMeaning};
+ghost use Rattle.look.specs.Meaning.{foundMeaning};
 ghost use Rattle.reader.specs.Meaning.{openMeaning, readMeaning};
 ghost use Rattle.stream.specs.Meaning.{writtenMeaning};
 ghost use Rattle.store.specs.Meaning.{checkedMeaning};
@@ -14,7 +15,8 @@ ghost use Rattle.chain.specs.Meaning.{descriptionMeaning, describedMeaning};
 ghost use Rattle.restore.specs.Meaning.{restoredMeaning};
 ghost use Rattle.reclaim.specs.Meaning.{markedMeaning, collectedMeaning};
 ghost use Rattle.answers.specs.Answers.{numberAnswer, doneAnswer, kindCode, packetAnswer, messageAnswer, changeAnswer};
-ghost use Rattle.answers.specs.Answers.{growthAnswer, rangeAnswer, originAnswer, cursorAnswer, readAnswer, dumpAnswer};
+ghost use Rattle.answers.specs.Answers.{growthAnswer, rangeAnswer, originAnswer, runStruct, runAnswer};
+ghost use Rattle.answers.specs.Answers.{cursorAnswer, readAnswer, dumpAnswer};
 use bit_ops::BitRead;
 use bit_ops::FieldSet;
 use bit_ops::WordRead;
@@ -24,6 +26,8 @@ use chain::Description;
 use edit::Grown;
 use edit::Moved;
 use edit::OctetOrigin;
+use look::Found;
+use look::Part;
 use message::sysex8::Copied;
 use packet::Earlier;
 use packet::Kind;
@@ -108,6 +112,17 @@ pub struct OriginAnswer {
     pub kind: u8,
     pub number: usize,
     pub index: usize,
+}
+
+// A run of bytes of a payload with one edit: where it stands, source 0 the payload before the edit, 1 the replacement, 2 the payload
+// behind the edit, and its bytes there, from `start` up to `end`.
+#[repr(C)]
+pub struct RunAnswer {
+    pub refusal: u8,
+    pub place: usize,
+    pub source: u8,
+    pub start: usize,
+    pub end: usize,
 }
 
 // Where a reader of a payload stands: packet, byte, and how many bytes are to be read.
@@ -507,6 +522,40 @@ pub fn origin(answer: OctetOrigin) -> OriginAnswer
                 kind: 0,
                 number: 0,
                 index: 0,
+            }
+        }
+    }
+}
+
+// A part of this source.
+fn stands(source: u8, part: Part) -> RunAnswer
+    ensures { λ r. ⌜ r ≡ runStruct source (part .start) (part .end) ⌝ }
+{
+    RunAnswer {
+        refusal: 0,
+        place: 0,
+        source,
+        start: part.start,
+        end: part.end,
+    }
+}
+
+// The answer of finding a run.
+pub fn run(answer: Found) -> RunAnswer
+    ensures { λ r. ⌜ r ≡ runAnswer (foundMeaning answer) ⌝ }
+{
+    match answer {
+        Found::Before(part) => stands(0, part),
+        Found::Within(part) => stands(1, part),
+        Found::Behind(part) => stands(2, part),
+        Found::Refused(fault) => {
+            let refusal = fault.refusal;
+            RunAnswer {
+                refusal: refusal::number(refusal),
+                place: fault.place,
+                source: 0,
+                start: 0,
+                end: 0,
             }
         }
     }

@@ -34,7 +34,7 @@ dump-read : (answer : Answer Description) → Named answer → dumpRead (dumpAns
 dump-read (gives d) h = dump-given d (d .base) refl
 dump-read (refused number place) (named r) = read-refused r place _
 
-promised : PromisedChain Restores Describes
+pub promised : PromisedChain Restores Describes
 promised =
     record {
       restores = λ {store = store} {n} {words} r.

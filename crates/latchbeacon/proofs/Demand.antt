@@ -93,7 +93,7 @@ answers =
 
 -- ---- each promise as an equation over plain values
 
-promised : PromisedFamily sysex8 family
+pub promised : PromisedFamily sysex8 family
 promised =
     record {
       splices = λ {words = words} {len = len} {edit = edit} {bytes = bytes} b s.

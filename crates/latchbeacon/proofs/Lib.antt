@@ -8,3 +8,5 @@ pub mod Writer
 pub mod RealTime
 pub mod Restorer
 pub mod Banks
+pub mod Looker
+pub mod Looked

@@ -20,6 +20,7 @@ use Rattle.ump.specs.Origin.{originOf, originIn, origin}
 use Rattle.ump.specs.Reader.{row, walk, places, unread, nth, reader}
 use Rattle.ump.specs.Samples.{alone, message2, bytes6}
 use Rattle.edit.specs.Growth.{growthOf}
+use Rattle.look.specs.Look.{find}
 use Rattle.store.specs.Store.{isData, bodySize, recordsAfter, followsBy, allowedBy, wellFormed, dataIn, patchesIn, dumpOf, dumpsIn, twice, sound, held}
 use Rattle.store.specs.Samples as store
 use Rattle.chain.specs.Restore.{roomed, outside, rebuilt, restored, sizes, described, describe}
@@ -32,6 +33,7 @@ use Rattle.answers.specs.declared.ChangeAnswer.{ChangeAnswer}
 use Rattle.answers.specs.declared.GrowthAnswer.{GrowthAnswer}
 use Rattle.answers.specs.declared.RangeAnswer.{RangeAnswer}
 use Rattle.answers.specs.declared.OriginAnswer.{OriginAnswer}
+use Rattle.answers.specs.declared.RunAnswer.{RunAnswer}
 use Rattle.answers.specs.declared.CursorAnswer.{CursorAnswer}
 use Rattle.answers.specs.declared.ReadAnswer.{ReadAnswer}
 use Rattle.answers.specs.declared.DumpAnswer.{DumpAnswer}
@@ -44,6 +46,7 @@ use Rattle.latchbeacon.proofs.splices.latchbeacon_sysex8_splice.Kinds a
 use Rattle.latchbeacon.proofs.splices.latchbeacon_sysex8_splice.Reads as splice-promise
 use Rattle.latchbeacon.proofs.splices.latchbeacon_sysex8_origin.Kinds as origin-kinds
 use Rattle.latchbeacon.proofs.splices.latchbeacon_sysex8_origin.Reads as origin-promise
+use Rattle.latchbeacon.proofs.looks.latchbeacon_look_run.Reads as look-run
 use Rattle.latchbeacon.proofs.edits.latchbeacon_growth.Reads as growth
 use Rattle.latchbeacon.proofs.edits.latchbeacon_move_edit.Reads as move
 use Rattle.latchbeacon.proofs.cursors.latchbeacon_sysex8_open.Kinds as open-kinds
@@ -160,6 +163,20 @@ origin-place κs a x s w p = differ (λ (r : OriginAnswer). r .index) tt (rw (w 
 origin-number : OriginShut 20 (record { refusal = 0; place = 0; kind = 1; number = 1; index = 1 })
 unfolding origin originIn originOf runFrom editsFrom replaced check checkPackets badType badStatus badCount badGroup badId statusNumber firstWhere statusFor payload payloadAt sizeOf octets joined packetsFor
 origin-number κs a x s w p = differ (λ (r : OriginAnswer). r .number) tt (rw (w .0, w .1, w .2, w .3, w .4, w .5) at p)
+
+-- ---- a run of five bytes with 1..3 by three: its source, its start, and that a refused one has none
+
+run-source : Shuts look-run.Post (5, (1, (3, (3, (4, tt))))) (record { refusal = 0; place = 0; source = 0; start = 3; end = 5 })
+unfolding find runFrom
+run-source κs s p = differ (λ (r : RunAnswer). r .source) tt p
+
+run-start : Shuts look-run.Post (5, (1, (3, (3, (2, tt))))) (record { refusal = 0; place = 0; source = 1; start = 2; end = 3 })
+unfolding find runFrom
+run-start κs s p = differ (λ (r : RunAnswer). r .start) tt p
+
+run-refused : Shuts look-run.Post (5, (1, (3, (3, (6, tt))))) (record { refusal = 13; place = 0; source = 2; start = 5; end = 5 })
+unfolding find runFrom
+run-refused κs s p = differ (λ (r : RunAnswer). r .end) tt p
 
 -- ---- a cursor, and what it reads: P2's message
 

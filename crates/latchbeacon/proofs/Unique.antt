@@ -71,6 +71,14 @@ use Rattle.latchbeacon.proofs.splices.latchbeacon_sysex8_splice_all.Kin
 use Rattle.latchbeacon.proofs.splices.latchbeacon_sysex8_splice_all.Reads as sysex8-splice-all
 use Rattle.latchbeacon.proofs.splices.latchbeacon_sysex8_origin.Kinds as sysex8-origin-kinds
 use Rattle.latchbeacon.proofs.splices.latchbeacon_sysex8_origin.Reads as sysex8-origin
+use Rattle.latchbeacon.proofs.looks.latchbeacon_look_run.Kinds as look-run-kinds
+use Rattle.latchbeacon.proofs.looks.latchbeacon_look_run.Reads as look-run
+use Rattle.latchbeacon.proofs.looks.latchbeacon_look_byte.Kinds as look-byte-kinds
+use Rattle.latchbeacon.proofs.looks.latchbeacon_look_byte.Reads as look-byte
+use Rattle.latchbeacon.proofs.looks.latchbeacon_sysex8_look_byte.Kinds as sysex8-look-byte-kinds
+use Rattle.latchbeacon.proofs.looks.latchbeacon_sysex8_look_byte.Reads as sysex8-look-byte
+use Rattle.latchbeacon.proofs.chains.latchbeacon_store_look_byte.Kinds as store-look-byte-kinds
+use Rattle.latchbeacon.proofs.chains.latchbeacon_store_look_byte.Reads as store-look-byte
 use Rattle.latchbeacon.proofs.edits.latchbeacon_growth.Kinds as growth-kinds
 use Rattle.latchbeacon.proofs.edits.latchbeacon_growth.Reads as growth
 use Rattle.latchbeacon.proofs.edits.latchbeacon_move_edit.Kinds as move-edit-kinds
@@ -193,6 +201,15 @@ sysex8-splice-all-unique κs a x y s t p q = both-fixed (λ r. r) (λ r r′ e. 
 sysex8-origin-unique : FixesResult 3 sysex8-origin-kinds.ps sysex8-origin-kinds.r sysex8-origin.Post
 sysex8-origin-unique κs a x y s t p q = p ∙ sym q
 
+look-run-unique : FixesResult 0 look-run-kinds.ps look-run-kinds.r look-run.Post
+look-run-unique κs a x y s t p q = p ∙ sym q
+
+look-byte-unique : FixesResult 3 look-byte-kinds.ps look-byte-kinds.r look-byte.Post
+look-byte-unique κs a x y s t p q = p ∙ sym q
+
+sysex8-look-byte-unique : FixesResult 3 sysex8-look-byte-kinds.ps sysex8-look-byte-kinds.r sysex8-look-byte.Post
+sysex8-look-byte-unique κs a x y s t p q = p ∙ sym q
+
 growth-unique : FixesResult 0 growth-kinds.ps growth-kinds.r growth.Post
 growth-unique κs a x y s t p q = p ∙ sym q
 
@@ -228,3 +245,6 @@ store-mark-unique κs a x y s t p q = both-fixed (λ r. r) (λ r r′ e. e) p q
 
 store-collect-unique : FixesOutcome 1 store-collect-kinds.ps store-collect-kinds.r store-collect.Post (λ κs s. s .0 .now)
 store-collect-unique κs a x y s t p q = both-fixed (λ r. r) (λ r r′ e. e) p q
+
+store-look-byte-unique : FixesResult 1 store-look-byte-kinds.ps store-look-byte-kinds.r store-look-byte.Post
+store-look-byte-unique κs a x y s t p q = p ∙ sym q

@@ -1,7 +1,8 @@
-// The exported calls on a store of dumps: its check, one dump described, restored or marked unwanted, and collecting.
+// The exported calls on a store of dumps: its check, one dump described, restored, looked at or marked unwanted, and collecting.
 ghost use mathlib.Core.Path.{_≡_};
 ghost use Rattle.store.specs.Store.{checkStore};
 ghost use Rattle.chain.specs.Restore.{restore, describe};
+ghost use Rattle.look_store.specs.Byte.{byteOfDump};
 ghost use Rattle.reclaim.specs.Reclaim.{mark, collect};
 ghost use Rattle.answers.specs.Answers.{numberAnswer, doneAnswer, dumpAnswer, leaving};
 use answers::DumpAnswer;
@@ -52,4 +53,17 @@ pub extern "C" fn latchbeacon_store_collect(store: &mut [u8]) -> NumberAnswer
     ensures { λ r. ⌜ (r, now (store .exit)) ≡ leaving numberAnswer (collect (now (store .entry))) ⌝ }
 {
     answers::collected(reclaim::collect(store))
+}
+
+// The byte at `position` of the payload that restoring the dump of this number would give, without restoring it; Format, Twice, Full,
+// Missing, Ring, then Range for an edit along the walk, then for the position. Nothing is written.
+#[no_mangle]
+pub extern "C" fn latchbeacon_store_look_byte(
+    store: &[u8],
+    number: usize,
+    position: usize,
+) -> NumberAnswer
+    ensures { λ r. ⌜ r ≡ numberAnswer (byteOfDump (now (store .entry)) number position) ⌝ }
+{
+    answers::byte(look_store::byte(store, number, position))
 }

@@ -5,6 +5,7 @@ mod chains;
 mod cursors;
 mod edits;
 mod fields;
+mod looks;
 mod messages;
 mod packets;
 mod splices;

@@ -1,6 +1,6 @@
 /*
- * latchbeacon: MIDI 2.0 SysEx8 bulk dumps: check, read, set, pack and splice, and restore from a store, in buffers that the caller
- * lends.
+ * latchbeacon: MIDI 2.0 SysEx8 bulk dumps: check, read, set, pack and splice, look at bytes of a result that is not written, and
+ * restore from a store, in buffers that the caller lends.
  *
  * Every call answers for any words, bytes and numbers. It takes no memory but stack, keeps nothing and never stops the program.
  *
@@ -67,7 +67,8 @@ enum latchbeacon_refusal {
     LATCHBEACON_GROUP = 11,    /* differs from the first packet */
     LATCHBEACON_STREAM = 12,   /* SysEx8 id differs from the first */
     LATCHBEACON_RANGE = 13,    /* from above to, or to above the payload size; byte index not below it; a number within an edit above
-                                  LATCHBEACON_MOST_BYTES; octet index not below 4 times the words lent */
+                                  LATCHBEACON_MOST_BYTES; octet index not below 4 times the words lent; position not below the size
+                                  of the result */
     LATCHBEACON_ROOM = 14,     /* words needed exceed words lent for output (payload out: bytes; store: also of a dump on the way) */
     LATCHBEACON_STATUS = 15,   /* single packet, status over 3 */
     LATCHBEACON_FIELD = 16,    /* field index, or value for a field, too big */
@@ -100,6 +101,13 @@ enum latchbeacon_origin_kind {
     LATCHBEACON_ORIGIN_FILLER = 3,    /* an unused octet of the last packet; it is zero */
     LATCHBEACON_ORIGIN_ZEROED = 4,    /* behind the new message, where the old one stood; it is zero */
     LATCHBEACON_ORIGIN_UNTOUCHED = 5  /* behind both; it is what it was */
+};
+
+/* Where the bytes of a run stand. */
+enum latchbeacon_run_source {
+    LATCHBEACON_RUN_BEFORE = 0,  /* in the payload, before the edit */
+    LATCHBEACON_RUN_WITHIN = 1,  /* in the replacement */
+    LATCHBEACON_RUN_BEHIND = 2   /* in the payload, behind the edit */
 };
 
 /* A number: a byte, a field, a word with a field set, a size in bytes, a length in words, that of a store in bytes; 0 where a call
@@ -163,6 +171,15 @@ typedef struct {
     size_t number;
     size_t index;
 } latchbeacon_origin;
+
+/* A run of bytes: its source (enum latchbeacon_run_source), and its bytes start..end there. Of an accepted call start is below end. */
+typedef struct {
+    uint8_t refusal;
+    size_t place;
+    uint8_t source;
+    size_t start;
+    size_t end;
+} latchbeacon_run;
 
 /* A dump of a store: whether it is a delta; the group and stream id of the whole dump that it rests on, or is; the number of its
  * base (0 for a whole dump); its payload size in bytes; the words to lend for restoring it; and how many bases are followed to the
@@ -309,6 +326,30 @@ latchbeacon_edit_growth latchbeacon_growth(size_t from, size_t to, size_t length
 latchbeacon_range latchbeacon_move_edit(size_t done_from, size_t done_to, size_t done_length, size_t pending_from,
                                         size_t pending_to, size_t pending_length, bool done_first);
 
+/* ---- looking at the result of edits, without writing it -----------------------------------------------------------------------
+ * A position counts in the payload that a splice of the edits would leave, and what is answered is what stands there then. Nothing is
+ * written, so that no room is asked for. The payload may be longer than LATCHBEACON_MOST_BYTES. The place is 0, but for the check's
+ * refusals. */
+
+/* Answers the longest run of bytes that starts at `position` once the payload bytes from..to are replaced. Before the edit it goes up
+ * to `from`, in the replacement to its end, behind the edit to the end of the payload. So an edit's end always ends a run, also if the
+ * edit is empty. The call takes sizes alone and reads no bytes: the run is the `end - start` bytes at payload + start, or at
+ * replacement + start, lent and not copied. The run at 0, then that at its end, and so on, at most three, are the whole result.
+ * Refusals: 13 (the edit is reversed or past the payload, or `to` or `replacement_size` is above LATCHBEACON_MOST_BYTES), then 13
+ * (position not below the size of the result). */
+latchbeacon_run latchbeacon_look_run(size_t payload_size, size_t from, size_t to, size_t replacement_size, size_t position);
+
+/* Answers the byte at `position` once all edits of a list are done at once. The edits and their bytes are lent as to
+ * latchbeacon_sysex8_splice_all, the payload as bytes. With no edits it is the payload's byte. Refusals: 13 (the numbers are not three
+ * to an edit; an edit is reversed, past the payload or has a number above LATCHBEACON_MOST_BYTES; the bytes are not as many as the
+ * lengths say), 20, then 13 (position not below the size of the result). */
+latchbeacon_number latchbeacon_look_byte(const uint8_t *payload, size_t payload_size, const size_t *numbers, size_t numbers_lent,
+                                         const uint8_t *bytes, size_t bytes_lent, size_t position);
+
+/* The same for the payload of the message in the first `length` words. Refusals: the check's, then those of latchbeacon_look_byte. */
+latchbeacon_number latchbeacon_sysex8_look_byte(const uint32_t *words, size_t words_lent, size_t length, const size_t *numbers,
+                                                size_t numbers_lent, const uint8_t *bytes, size_t bytes_lent, size_t position);
+
 /* ---- reading a payload byte by byte -------------------------------------------------------------------------------------------
  * A reader is a cursor: packet, byte and remaining, passed in and answered moved on. These calls take any numbers: a packet of count
  * 0 or 15 is empty, a byte at or past its packet's size moves on to the next packet, and words short of a packet are ignored. */
@@ -366,6 +407,12 @@ latchbeacon_dump latchbeacon_store_describe(const uint8_t *store, size_t store_s
  * dump itself, all its edits done, needs more words than lent). */
 latchbeacon_number latchbeacon_store_restore(const uint8_t *store, size_t store_size, size_t number, uint32_t *words,
                                              size_t words_lent);
+
+/* Answers the byte at `position` of the payload that the dump of this number has, without restoring it. It takes any dump that
+ * latchbeacon_store_describe takes, also one too long to be restored, and needs no words. It reads the store once, and the records of
+ * the dump and of those that it rests on twice more. Refusals, in this order: those of latchbeacon_store_describe, then 13 (position
+ * not below the payload size). */
+latchbeacon_number latchbeacon_store_look_byte(const uint8_t *store, size_t store_size, size_t number, size_t position);
 
 /* Marks the dump of this number unwanted: its kind 01 becomes 11 hex, 02 becomes 12, and no other byte is changed. Every number is
  * still described and restored as before, this one too, and it still counts for 22 and 23. Marking again is accepted and changes

@@ -2,12 +2,13 @@
 
 use crate::error::Error;
 use crate::ffi;
-use std::ops::Range;
+use std::ops::{Bound, Range, RangeBounds};
 
 /// An edit of a payload: the bytes `from..to` are replaced by `length` bytes.
 ///
 /// It has no bytes of its own. A list of edits and their bytes is what
-/// [`Message::splice_edits`](crate::Message::splice_edits) and [`Message::origin`](crate::Message::origin) take.
+/// [`Message::splice_edits`](crate::Message::splice_edits) and [`Message::origin`](crate::Message::origin) take, and
+/// [`Message::byte_after`](crate::Message::byte_after) and [`look::byte`](crate::look::byte).
 ///
 /// ```
 /// use latchbeacon::Edit;
@@ -52,6 +53,21 @@ impl Edit {
     pub fn growth(&self) -> Result<i64, Error> {
         ffi::growth(*self)
     }
+}
+
+// The two numbers of a range of a payload of `size` bytes; one that no number can say ends above every payload.
+pub(crate) fn numbers(range: impl RangeBounds<usize>, size: usize) -> Range<usize> {
+    let from = match range.start_bound() {
+        Bound::Included(&index) => index,
+        Bound::Excluded(&index) => index.saturating_add(1),
+        Bound::Unbounded => 0,
+    };
+    let to = match range.end_bound() {
+        Bound::Included(&index) => index.saturating_add(1),
+        Bound::Excluded(&index) => index,
+        Bound::Unbounded => size,
+    };
+    from..to
 }
 
 /// The pending edit as it is to be done once the done one is spliced.

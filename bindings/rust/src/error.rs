@@ -42,7 +42,7 @@ pub enum Refusal {
     /// 12: the SysEx8 stream id differs from the first packet's.
     Stream,
     /// 13: from above to, or to above the payload size; byte index not below it; a number within an edit above
-    /// [`MOST_BYTES`](crate::MOST_BYTES); octet index not below 4 times the words lent.
+    /// [`MOST_BYTES`](crate::MOST_BYTES); octet index not below 4 times the words lent; position not below the size of the result.
     Range,
     /// 14: words needed exceed words lent for output (payload out: bytes; store: also of a dump on the way).
     Room,
@@ -90,7 +90,7 @@ const TABLE: [(u8, Refusal, &str, &str); 24] = [
         Refusal::Range,
         "Range",
         "from above to, or to above the payload size; byte index not below it; a number within an edit above 53,248; octet index \
-         not below 4 times the words lent",
+         not below 4 times the words lent; position not below the size of the result",
     ),
     (14, Refusal::Room, "Room", "words needed exceed words lent for output (payload out: bytes; store: also of a dump on the way)"),
     (15, Refusal::Status, "Status", "single packet, status over 3"),

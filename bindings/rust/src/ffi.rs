@@ -69,6 +69,15 @@ pub(crate) struct Origin {
 }
 
 #[repr(C)]
+pub(crate) struct Run {
+    refusal: u8,
+    place: usize,
+    pub(crate) source: u8,
+    pub(crate) start: usize,
+    pub(crate) end: usize,
+}
+
+#[repr(C)]
 pub(crate) struct Dump {
     refusal: u8,
     place: usize,
@@ -139,6 +148,11 @@ extern "C" {
     fn latchbeacon_growth(from: usize, to: usize, length: usize) -> EditGrowth;
     fn latchbeacon_move_edit(done_from: usize, done_to: usize, done_length: usize, pending_from: usize,
                              pending_to: usize, pending_length: usize, done_first: bool) -> Range;
+    fn latchbeacon_look_run(payload_size: usize, from: usize, to: usize, replacement_size: usize, position: usize) -> Run;
+    fn latchbeacon_look_byte(payload: *const u8, payload_size: usize, numbers: *const usize, numbers_lent: usize,
+                             bytes: *const u8, bytes_lent: usize, position: usize) -> Number;
+    fn latchbeacon_sysex8_look_byte(words: *const u32, words_lent: usize, length: usize, numbers: *const usize,
+                                    numbers_lent: usize, bytes: *const u8, bytes_lent: usize, position: usize) -> Number;
     fn latchbeacon_sysex8_open(words: *const u32, words_lent: usize, length: usize) -> Cursor;
     fn latchbeacon_sysex8_next(words: *const u32, words_lent: usize, packet: usize, byte: usize, remaining: usize) -> Read;
     fn latchbeacon_sysex8_nth(words: *const u32, words_lent: usize, packet: usize, byte: usize, remaining: usize,
@@ -150,6 +164,7 @@ extern "C" {
     fn latchbeacon_store_describe(store: *const u8, store_size: usize, number: usize) -> Dump;
     fn latchbeacon_store_restore(store: *const u8, store_size: usize, number: usize, words: *mut u32,
                                  words_lent: usize) -> Number;
+    fn latchbeacon_store_look_byte(store: *const u8, store_size: usize, number: usize, position: usize) -> Number;
     fn latchbeacon_store_mark(store: *mut u8, store_size: usize, number: usize) -> Number;
     fn latchbeacon_store_collect(store: *mut u8, store_size: usize) -> Number;
 }
@@ -180,7 +195,7 @@ macro_rules! answers {
     };
 }
 
-answers!(Number, Packet, Message, Change, EditGrowth, Range, Origin, Dump, Cursor);
+answers!(Number, Packet, Message, Change, EditGrowth, Range, Origin, Run, Dump, Cursor);
 
 // The value of an answer of one number, as the type that it fits: the library's answer is never too big for it.
 #[inline]
@@ -365,6 +380,34 @@ pub(crate) fn move_edit(done: Edit, pending: Edit, done_first: bool) -> Result<R
         .accepted()
 }
 
+// ---- looking at the result of edits
+
+// The run at a position of a payload of so many bytes with one edit.
+pub(crate) fn look_run(payload_size: usize, edit: Edit, position: usize) -> Result<Run, Error> {
+    // SAFETY: the call takes numbers alone, any of them.
+    unsafe { latchbeacon_look_run(payload_size, edit.from, edit.to, edit.length, position) }.accepted()
+}
+
+// The byte at a position of a payload with all edits of a list.
+pub(crate) fn look_byte(payload: &[u8], edits: &[Edit], bytes: &[u8], position: usize) -> Result<u8, Error> {
+    let (address, size) = (payload.as_ptr(), payload.len());
+    let (numbers, numbers_lent) = (edits.as_ptr().cast::<usize>(), edits.len() * 3);
+    // SAFETY: `payload`, `bytes` and `edits` are slices, and an edit is three numbers of `usize` in the order from, to, length, with
+    // nothing between (`repr(C)`), so that there are three times as many numbers as edits. The call only reads.
+    value(unsafe { latchbeacon_look_byte(address, size, numbers, numbers_lent, bytes.as_ptr(), bytes.len(), position) })
+}
+
+// The byte at a position of a message's payload with all edits of a list.
+pub(crate) fn sysex8_look_byte(words: &[u32], length: usize, edits: &[Edit], bytes: &[u8], position: usize) -> Result<u8, Error> {
+    let (address, lent) = (words.as_ptr(), words.len());
+    let (numbers, numbers_lent) = (edits.as_ptr().cast::<usize>(), edits.len() * 3);
+    // SAFETY: `words`, `bytes` and `edits` are slices, and an edit is three numbers of `usize` in the order from, to, length, with
+    // nothing between (`repr(C)`), so that there are three times as many numbers as edits. The call only reads.
+    value(unsafe {
+        latchbeacon_sysex8_look_byte(address, lent, length, numbers, numbers_lent, bytes.as_ptr(), bytes.len(), position)
+    })
+}
+
 // ---- reading a payload
 
 // The cursor at the start of a message.
@@ -430,6 +473,12 @@ pub(crate) fn store_restore(store: &[u8], number: usize, words: &mut [u32]) -> R
     let (address, lent) = (words.as_mut_ptr(), words.len());
     // SAFETY: `store` is a slice; `words` is a slice that is lent to this call alone, so they do not overlap.
     value(unsafe { latchbeacon_store_restore(store.as_ptr(), store.len(), number, address, lent) })
+}
+
+// The byte at a position of a dump's payload.
+pub(crate) fn store_look_byte(store: &[u8], number: usize, position: usize) -> Result<u8, Error> {
+    // SAFETY: `store` is a slice.
+    value(unsafe { latchbeacon_store_look_byte(store.as_ptr(), store.len(), number, position) })
 }
 
 // Marks a dump of a store unwanted.

@@ -1,4 +1,5 @@
-//! MIDI 2.0 SysEx8 bulk dumps: check, read, set, pack and splice, and restore from a store, in words that the caller lends.
+//! MIDI 2.0 SysEx8 bulk dumps: check, read, set, pack and splice, look at bytes of a result that is not written, and restore from a
+//! store, in words that the caller lends.
 //!
 //! This crate is a safe skin over the static library `latchbeacon`, whose calls are proved to meet their contracts for every
 //! input. It has no other dependencies. It links on Linux, on x86-64 and on Arm (aarch64). What is proved is compiled for x86-64; the
@@ -30,6 +31,9 @@
 //!
 //! A [`Store`] has many dumps, each whole or a delta of another, and restores one of them to such words. Dumps that are not wanted any
 //! more are marked and collected.
+//!
+//! Where only some bytes of a patched dump are asked for, nothing needs to be written: module [`look`] lends them run by run,
+//! [`Message::byte_after`] and [`Store::byte`] answer one of them.
 //!
 //! # Limits
 //!
@@ -80,6 +84,7 @@ mod edit;
 mod error;
 mod ffi;
 pub mod fields;
+pub mod look;
 mod message;
 mod origin;
 mod packet;

@@ -1,12 +1,12 @@
 //! SysEx8 messages in lent words: a view that reads, and a message that also changes them.
 
-use crate::edit::Edit;
+use crate::edit::{self, Edit};
 use crate::error::Error;
 use crate::ffi;
 use crate::origin::Origin;
 use crate::payload::Payload;
 use std::fmt;
-use std::ops::{Bound, Range, RangeBounds};
+use std::ops::{Range, RangeBounds};
 
 /// What the check of a message answers.
 #[derive(Clone, Copy, Debug, PartialEq, Eq, Hash)]
@@ -128,6 +128,27 @@ impl<'a> View<'a> {
     /// ```
     pub fn origin(&self, edits: &[Edit], bytes: &[u8], octet: usize) -> Result<Origin, Error> {
         ffi::sysex8_origin(self.words, self.words.len(), edits, bytes, octet).map(Origin::of_answer)
+    }
+
+    /// The payload byte at `position` once all edits of a list are done, without doing them, as [`Message::byte_after`].
+    ///
+    /// # Errors
+    ///
+    /// Those of [`Message::byte_after`].
+    ///
+    /// ```
+    /// use latchbeacon::{Edit, Refusal, View};
+    ///
+    /// // Payload 41 42, and 10 put in between.
+    /// let words = [0x5203_0741, 0x4200_0000, 0, 0];
+    /// let view = View::check(&words, 4)?;
+    /// let edits = [Edit::new(1..1, 1)];
+    /// assert_eq!([0, 1, 2].map(|position| view.byte_after(&edits, &[0x10], position)), [Ok(0x41), Ok(0x10), Ok(0x42)]);
+    /// assert_eq!(view.byte_after(&edits, &[0x10], 3).unwrap_err().refusal, Refusal::Range);
+    /// # Ok::<(), latchbeacon::Error>(())
+    /// ```
+    pub fn byte_after(&self, edits: &[Edit], bytes: &[u8], position: usize) -> Result<u8, Error> {
+        ffi::sysex8_look_byte(self.words, self.words.len(), edits, bytes, position)
     }
 }
 
@@ -345,6 +366,39 @@ impl<'a> Message<'a> {
         ffi::sysex8_origin(self.words, self.summary.words, edits, bytes, octet).map(Origin::of_answer)
     }
 
+    /// The payload byte at `position` once all edits of a list are done by [`splice_edits`](Message::splice_edits), without doing
+    /// them: nothing is changed, and no room is needed. With no edits it is [`byte`](Message::byte).
+    ///
+    /// # Errors
+    ///
+    /// [`Range`](crate::Refusal::Range) if a range is reversed or ends above the payload size, a number is above
+    /// [`MOST_BYTES`](crate::MOST_BYTES), or there are not as many bytes as the lengths say; then
+    /// [`Overlap`](crate::Refusal::Overlap) if the edits are not in ascending order, each ending no later than the next begins; then
+    /// `Range` if `position` is not below the size of the result.
+    ///
+    /// ```
+    /// use latchbeacon::{Edit, Message, Refusal};
+    ///
+    /// // Payload A0 A1 A2, in a buffer that has no room for more than 13 bytes.
+    /// let mut words = [0x5104_05A0, 0xA1A2_0000, 0, 0];
+    /// let message = Message::check(&mut words, 4)?;
+    /// let edits = [Edit::new(0..1, 20), Edit::new(2..3, 0)];
+    /// assert_eq!(message.byte_after(&edits, &[0xB0; 20], 19), Ok(0xB0));
+    /// assert_eq!(message.byte_after(&edits, &[0xB0; 20], 20), Ok(0xA1));
+    ///
+    /// let refused = |edits: &[Edit], bytes: &[u8], position| message.byte_after(edits, bytes, position).unwrap_err().refusal;
+    /// assert_eq!(refused(&[Edit { from: 1, to: 0, length: 0 }], &[], 0), Refusal::Range); // reversed
+    /// assert_eq!(refused(&[Edit::new(0..4, 0)], &[], 0), Refusal::Range); // past the payload
+    /// assert_eq!(refused(&[Edit::new(0..0, 53_249)], &[0; 53_249], 0), Refusal::Range); // a number above 53,248
+    /// assert_eq!(refused(&edits, &[0xB0; 19], 0), Refusal::Range); // a byte too few
+    /// assert_eq!(refused(&[Edit::new(2..3, 0), Edit::new(0..1, 0)], &[], 0), Refusal::Overlap);
+    /// assert_eq!(refused(&edits, &[0xB0; 20], 21), Refusal::Range); // behind the result
+    /// # Ok::<(), latchbeacon::Error>(())
+    /// ```
+    pub fn byte_after(&self, edits: &[Edit], bytes: &[u8], position: usize) -> Result<u8, Error> {
+        self.view().byte_after(edits, bytes, position)
+    }
+
     /// Sets the group of every packet. Every other bit stays.
     ///
     /// # Errors
@@ -452,7 +506,7 @@ impl<'a> Message<'a> {
     /// # Ok::<(), latchbeacon::Error>(())
     /// ```
     pub fn splice(&mut self, range: impl RangeBounds<usize>, replacement: &[u8]) -> Result<i64, Error> {
-        let range = self.numbers(range);
+        let range = edit::numbers(range, self.summary.size);
         let change = ffi::sysex8_splice(self.words, self.summary.words, range.start, range.end, replacement)?;
         Ok(self.changed(change))
     }
@@ -561,21 +615,6 @@ impl<'a> Message<'a> {
     pub fn splice_edits(&mut self, edits: &[Edit], bytes: &[u8]) -> Result<i64, Error> {
         let change = ffi::sysex8_splice_all(self.words, self.summary.words, edits, bytes)?;
         Ok(self.changed(change))
-    }
-
-    // The two numbers of a range; one that no number can say ends above every payload.
-    fn numbers(&self, range: impl RangeBounds<usize>) -> Range<usize> {
-        let from = match range.start_bound() {
-            Bound::Included(&index) => index,
-            Bound::Excluded(&index) => index.saturating_add(1),
-            Bound::Unbounded => 0,
-        };
-        let to = match range.end_bound() {
-            Bound::Included(&index) => index.saturating_add(1),
-            Bound::Excluded(&index) => index,
-            Bound::Unbounded => self.summary.size,
-        };
-        from..to
     }
 
     // Keeps the new length and payload size of an accepted change, and answers its growth.

@@ -183,6 +183,41 @@ impl<'a> Store<'a> {
     pub fn restore(&self, number: usize, words: &mut [u32]) -> Result<usize, Error> {
         ffi::store_restore(self.0, number, words)
     }
+
+    /// The byte at `position` of the payload of the dump of this number, without restoring it: no words are lent, and a dump that is
+    /// too long to be restored is read too.
+    ///
+    /// # Errors
+    ///
+    /// Those of [`describe`](Store::describe), then [`Range`](crate::Refusal::Range) if `position` is not below the payload size.
+    ///
+    /// ```
+    /// use latchbeacon::{Refusal, Store};
+    ///
+    /// let records = [
+    ///     0x01, 0, 7, 1, 5, 0x83, 0xA0, 0xA1, 0xA2, // dump 7 is whole
+    ///     0x02, 0, 8, 0, 7, 0x03, 0, 0, 0, 1, 0x82, 0xB0, 0xB1, // dump 8 is a delta of 7: its first byte is replaced by two
+    /// ];
+    /// let store = Store::new(&records);
+    /// assert_eq!((store.byte(7, 0), store.byte(8, 0)), (Ok(0xA0), Ok(0xB0)));
+    /// assert_eq!((store.byte(7, 1), store.byte(8, 2)), (Ok(0xA1), Ok(0xA1)));
+    ///
+    /// // Each refusal, with records that are put behind these.
+    /// let refused = |more: &[u8], number, position| {
+    ///     Store::new(&[&records[..], more].concat()).byte(number, position).unwrap_err().refusal
+    /// };
+    /// let many: Vec<u8> = (0..255).flat_map(|number| [0x01, 1, number, 0, 0]).collect();
+    /// assert_eq!(refused(&[0x13], 8, 0), Refusal::Format); // no such kind
+    /// assert_eq!(refused(&[0x01, 0, 7, 0, 0], 8, 0), Refusal::Twice); // a second dump 7
+    /// assert_eq!(refused(&many, 8, 0), Refusal::Full); // 257 dumps
+    /// assert_eq!(refused(&[], 9, 0), Refusal::Missing); // no dump 9
+    /// assert_eq!(refused(&[0x02, 0, 9, 0, 9], 9, 0), Refusal::Ring); // dump 9 is its own base
+    /// assert_eq!(refused(&[0x02, 0, 9, 0, 7, 0x03, 0, 0, 0, 4], 9, 0), Refusal::Range); // an edit past its base's payload
+    /// assert_eq!(refused(&[], 8, 4), Refusal::Range); // behind the payload
+    /// ```
+    pub fn byte(&self, number: usize, position: usize) -> Result<u8, Error> {
+        ffi::store_look_byte(self.0, number, position)
+    }
 }
 
 /// Reclaiming a store. These calls change its bytes, so they are lent them as such.

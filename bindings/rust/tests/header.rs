@@ -9,6 +9,7 @@ const HEADER: &str = include_str!("../../../include/latchbeacon.h");
 const BINDINGS: &str = include_str!("../src/ffi.rs");
 const KINDS: &str = include_str!("../src/packet.rs");
 const ORIGINS: &str = include_str!("../src/origin.rs");
+const SOURCES: &str = include_str!("../src/look.rs");
 
 // A function or a struct: `fn name(a: u32) -> Answer` or `struct Name { a: u32 }`, in Rust's words.
 type Declarations = Vec<String>;
@@ -278,7 +279,7 @@ fn differences(header: &str, bindings: &str) -> Vec<String> {
 // The declarations are the header's.
 #[test]
 fn declarations_are_those_of_the_header() {
-    assert_eq!(read_bindings(BINDINGS).len(), 53, "43 functions and 10 structs");
+    assert_eq!(read_bindings(BINDINGS).len(), 58, "47 functions and 11 structs");
     let differences = differences(HEADER, BINDINGS);
     assert!(differences.is_empty(), "the bindings differ from include/latchbeacon.h:\n{}", differences.join("\n"));
 }
@@ -342,30 +343,50 @@ fn version_is_that_of_the_header() {
     assert_eq!(macro_of(HEADER, "LATCHBEACON_VERSION"), format!("\"{}\"", env!("CARGO_PKG_VERSION")));
 }
 
+// The names and numbers of the first enum of source of the bindings, which has this name, as the header would have them.
+fn enum_of(source: &str, name: &str, prefix: &str) -> Vec<(String, u8)> {
+    let all = rust_tokens(source);
+    let mut tokens = all.iter().peekable();
+    while tokens.next().expect("an enum") != "enum" {}
+    expect(&mut tokens, name);
+    numbers(&mut tokens).into_iter().map(|(name, number)| (format!("{prefix}{}", upper(&name)), number)).collect()
+}
+
 // The kinds of packets have the header's names and numbers, and there are no others.
 #[test]
 fn kinds_are_those_of_the_header() {
-    let header = read_header(HEADER, "latchbeacon_kind").1;
-    let all = rust_tokens(KINDS);
-    let mut tokens = all.iter().peekable();
-    while tokens.next().expect("an enum of kinds") != "enum" {}
-    expect(&mut tokens, "Kind");
-    let bindings: Vec<(String, u8)> =
-        numbers(&mut tokens).into_iter().map(|(name, number)| (format!("LATCHBEACON_KIND_{}", upper(&name)), number)).collect();
-    assert_eq!(header, bindings);
+    assert_eq!(read_header(HEADER, "latchbeacon_kind").1, enum_of(KINDS, "Kind", "LATCHBEACON_KIND_"));
+}
+
+// The sources of runs have the header's names and numbers, there are no others, and they are taken by these; the last is taken without
+// its number.
+#[test]
+fn sources_are_those_of_the_header() {
+    let header = read_header(HEADER, "latchbeacon_run_source").1;
+    assert_eq!(header.len(), 3);
+    assert_eq!(header, enum_of(SOURCES, "Source", "LATCHBEACON_RUN_"));
+    assert_eq!(header_arms(header), arms_of(SOURCES, "Source", "LATCHBEACON_RUN_"));
+}
+
+// The arms `NUMBER => ENUM::NAME` of source of the bindings, each as the header's name and the number.
+fn arms_of(source: &str, name: &str, prefix: &str) -> Vec<(String, String)> {
+    let tokens = rust_tokens(source);
+    let arms = tokens.windows(7).filter(|arm| arm[1..6] == ["=", ">", name, ":", ":"]);
+    arms.map(|arm| (format!("{prefix}{}", upper(&arm[6])), arm[0].clone())).collect()
+}
+
+// The arms that an enum of the header asks for, the last without its number.
+fn header_arms(header: Vec<(String, u8)>) -> Vec<(String, String)> {
+    let mut wanted: Vec<(String, String)> = header.into_iter().map(|(name, number)| (name, number.to_string())).collect();
+    wanted.last_mut().expect("an enum that is not empty").1 = "_".into();
+    wanted
 }
 
 // The kinds of origins are taken by the header's numbers and names, and there are no others; the last is taken without its number.
 #[test]
 fn origins_are_those_of_the_header() {
     let header = read_header(HEADER, "latchbeacon_origin_kind").1;
-    let tokens = rust_tokens(ORIGINS);
-    let arms = tokens.windows(7).filter(|arm| arm[1..6] == ["=", ">", "Origin", ":", ":"]);
-    let bindings: Vec<(String, String)> =
-        arms.map(|arm| (format!("LATCHBEACON_ORIGIN_{}", upper(&arm[6])), arm[0].clone())).collect();
-    let mut wanted: Vec<(String, String)> = header.into_iter().map(|(name, number)| (name, number.to_string())).collect();
-    wanted.last_mut().expect("kinds of origins").1 = "_".into();
-    assert_eq!(wanted, bindings);
+    assert_eq!(header_arms(header), arms_of(ORIGINS, "Origin", "LATCHBEACON_ORIGIN_"));
 }
 
 // A type, a name, an order, a missing and an extra declaration, a missing layout: each of these changes fails the comparison.
@@ -381,6 +402,12 @@ fn a_change_of_a_declaration_is_seen() {
         ("numbers: *const usize", "numbers: *const u32"),
         ("bytes_lent: usize, octet: usize) -> Origin;", "octet: usize, bytes_lent: usize) -> Origin;"),
         ("    pub(crate) number: usize,", "    pub(crate) number: u8,"),
+        ("    pub(crate) source: u8,", "    pub(crate) source: usize,"),
+        ("    pub(crate) start: usize,\n    pub(crate) end: usize,", "    pub(crate) end: usize,\n    pub(crate) start: usize,"),
+        ("replacement_size: usize, position: usize) -> Run;", "position: usize, replacement_size: usize) -> Run;"),
+        ("fn latchbeacon_look_byte(payload: *const u8", "fn latchbeacon_look_byte(payload: *mut u8"),
+        ("bytes_lent: usize, position: usize) -> Number;", "position: usize, bytes_lent: usize) -> Number;"),
+        ("number: usize, position: usize) -> Number;", "position: usize, number: usize) -> Number;"),
         ("pending_length: usize, done_first: bool) -> Range;", "pending_length: usize, done_first: bool) -> EditGrowth;"),
         ("bytes: *mut u8, bytes_lent: usize) -> Number", "bytes: *mut u8) -> Number"),
         ("    pub(crate) from: usize,\n    pub(crate) to: usize,", "    pub(crate) to: usize,\n    pub(crate) from: usize,"),

@@ -1,6 +1,8 @@
 //! Every refusal that a call can give, with its number, name and place; and that nothing is changed by it.
 
-use latchbeacon::{bytes_to_sysex7, fields, move_edit, sysex7, sysex8, Edit, Error, Message, Origin, Refusal, View};
+use latchbeacon::{
+    bytes_to_sysex7, fields, look, move_edit, sysex7, sysex8, Edit, Error, Message, Origin, Refusal, View, MOST_BYTES,
+};
 
 const START: u32 = 0x5011_0900;
 const CONTINUE: u32 = 0x5021_0900;
@@ -131,6 +133,38 @@ fn origins_are_refused() {
     assert_eq!(message.origin(&[first, second], &[], 19), Ok(Origin::Untouched));
     assert_eq!(View::check(&words, 4).unwrap().origin(&[], &[], 16).unwrap_err().number(), 13);
     assert_eq!(copy, words);
+}
+
+// A byte after a list of edits: the list, its order, the position; each is asked with the next at fault too, so that the order shows. It
+// is asked of the payload and of a message, which has no room for more.
+#[test]
+fn looks_are_refused() {
+    let words = [0x5203_0741, 0x4200_0000, 0, 0];
+    let view = View::check(&words, 4).unwrap();
+    let asked = |edits: &[Edit], count: usize, position| {
+        let bytes = vec![0; count];
+        let answer = look::byte(&[0x41, 0x42], edits, &bytes, position);
+        assert_eq!(view.byte_after(edits, &bytes, position), answer);
+        answer.map_err(|error| (error.number(), error.place))
+    };
+    let (first, second, long) = (Edit::new(0..1, 0), Edit::new(1..2, 0), Edit::new(0..0, 12));
+    let (past, above) = (usize::MAX, MOST_BYTES + 1);
+    assert_eq!(asked(&[second, Edit { from: 1, to: 0, length: 0 }], 0, past), Err((13, 0)));
+    assert_eq!(asked(&[second, Edit::new(0..3, 0)], 0, past), Err((13, 0)));
+    assert_eq!(asked(&[second, Edit::new(0..past, 0)], 0, past), Err((13, 0)));
+    assert_eq!(asked(&[second, Edit::new(0..0, above)], above, past), Err((13, 0)));
+    assert_eq!(asked(&[second, Edit::new(0..0, past), Edit::new(0..0, past)], 0, past), Err((13, 0)));
+    assert_eq!(asked(&[second, long], 11, past), Err((13, 0)));
+    assert_eq!(asked(&[second, long], 13, past), Err((13, 0)));
+    assert_eq!(asked(&[], 1, 0), Err((13, 0)));
+    assert_eq!(asked(&[second, first], 0, past), Err((20, 0)));
+    assert_eq!(asked(&[second, long], 12, 0), Err((20, 0)));
+    assert_eq!(asked(&[long], 12, past), Err((13, 0)));
+    assert_eq!(asked(&[long], 12, 14), Err((13, 0)));
+    assert_eq!(asked(&[first, second], 0, 0), Err((13, 0)));
+    assert_eq!(asked(&[], 0, 2), Err((13, 0)));
+    assert_eq!(asked(&[long], 12, 13), Ok(0x42));
+    assert_eq!(asked(&[Edit::new(2..2, MOST_BYTES)], MOST_BYTES, MOST_BYTES + 1), Ok(0));
 }
 
 // Single packets and streams.

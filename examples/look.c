@@ -4,8 +4,8 @@
  * The bank has two entries of eight bytes: a number, six letters of a name, a level. First one edit renames the first entry, and the
  * runs of the result are printed one after the other, each by a pointer into the bank or into the new name. An edit that changes
  * nothing still ends a run. Then two edits rename the first entry and take the second one out. The bytes of that result are asked one
- * by one: of the bank's bytes, of the bank in packets, and of a store in which the same edits make dump 2 of dump 1. All three print the
- * same row.
+ * by one: of the bank's bytes, of the bank in packets, and of a store in which the same edits make dump 2 of dump 1. All three print
+ * the same row.
  */
 #include <stdbool.h>
 #include <stdio.h>

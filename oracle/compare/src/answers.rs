@@ -63,10 +63,13 @@ pub enum Kind {
     Stream,
     Needed,
     Origin,
+    LookRun,
+    LookByte,
+    LookMessage,
 }
 
 /// The kinds as rows of the table of counts.
-pub const KIND_NAMES: [&str; 23] = [
+pub const KIND_NAMES: [&str; 26] = [
     "word field, read",
     "word field, set",
     "single SysEx8 packet",
@@ -89,11 +92,14 @@ pub const KIND_NAMES: [&str; 23] = [
     "byte stream (outside the port)",
     "words needed",
     "origin of an octet, all edits (added)",
+    "run of an edited payload (added)",
+    "byte of an edited payload (added)",
+    "byte of an edited message (added)",
     "chained edits",
 ];
 
 /// The row of chained edits, which are of several kinds.
-pub const CHAINED: usize = 22;
+pub const CHAINED: usize = 25;
 
 impl Kind {
     /// The kind's row in the table of counts.
@@ -121,12 +127,15 @@ impl Kind {
             Kind::Stream => 19,
             Kind::Needed => 20,
             Kind::Origin => 21,
+            Kind::LookRun => 22,
+            Kind::LookByte => 23,
+            Kind::LookMessage => 24,
         }
     }
 
     /// Whether the call works on a SysEx8 message: the first number is its length.
     pub fn on_message(self) -> bool {
-        matches!(self.row(), 8 | 10..=18 | 21)
+        matches!(self.row(), 8 | 10..=18 | 21 | 24)
     }
 
     /// Whether the call rewrites the message in fewest-packet form.
@@ -151,8 +160,10 @@ impl Kind {
 }
 
 /// One question. Numbers are: index (and value) of a field; the group of a packet; else the message's length
-/// first, then the call's own; for an origin the octet, then three of each edit. Steps are letters in `bytes`, n or t,
-/// with a number each (0 for n).
+/// first, then the call's own; for an origin the octet, then three of each edit; for a byte of an edited message the position, then
+/// the same. A byte of an edited payload has the payload's size in the place of the length, and its bytes before those of the edits.
+/// A run has sizes alone: of the payload, from, to, of the replacement, and the position. Steps are letters in `bytes`, n or t, with
+/// a number each (0 for n).
 #[derive(Clone, PartialEq, Eq, Debug)]
 pub struct Input {
     pub kind: Kind,

@@ -308,7 +308,7 @@ pub fn edits(random: &mut Random, size: usize, most: usize) -> Vec<u64> {
 }
 
 /// Spoils a list of edits in one place: a number changed, two edits the wrong way round, a number cut off or put behind.
-fn spoil(random: &mut Random, numbers: &mut Vec<u64>) {
+pub fn spoil(random: &mut Random, numbers: &mut Vec<u64>) {
     let any = random.pick(&[0, 1, 53_248, 53_249, 1 << 32, u64::MAX]);
     match (random.below(4), numbers.len()) {
         (0, count @ 1..) => numbers[random.below(count)] = any,

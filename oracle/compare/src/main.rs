@@ -11,6 +11,7 @@ mod exhaustive;
 mod expect;
 mod inputs;
 mod layout;
+mod looks;
 mod model;
 mod options;
 mod original;
@@ -28,11 +29,12 @@ use random::Random;
 use std::time::{Duration, Instant};
 
 /// Runs the exhaustive part, the largest messages, then rounds of random inputs until the time is over. Inputs for ours
-/// alone, and byte streams with real-time bytes, have numbers of their own, so that the others are the same with and without
-/// them.
+/// alone, byte streams with real-time bytes, and looks have numbers of their own, so that the others are the same with and
+/// without them.
 fn compare_all(options: &Options, counts: &mut Counts) -> Result<(), String> {
     let start = Instant::now();
     exhaustive::run(counts)?;
+    looks::exhaustive(counts)?;
     println!(
         "short inputs: {} comparisons, {:.1} s",
         counts.total(),
@@ -41,9 +43,11 @@ fn compare_all(options: &Options, counts: &mut Counts) -> Result<(), String> {
     let mut random = Random::new(options.seed);
     let mut apart = Random::new(!options.seed);
     let mut clocked = Random::clocked(options.seed);
+    let mut looking = Random::looking(options.seed);
     sampled::largest(&mut random, counts)?;
     sampled::largest_origins(&mut apart, counts)?;
     sampled::longest_streams(&mut clocked, counts)?;
+    looks::largest(&mut looking, counts)?;
     println!(
         "largest messages done, {:.1} s",
         start.elapsed().as_secs_f64()
@@ -56,6 +60,7 @@ fn compare_all(options: &Options, counts: &mut Counts) -> Result<(), String> {
         sampled::round(&mut random, counts)?;
         sampled::origins(&mut apart, counts)?;
         sampled::clocked_streams(&mut clocked, counts)?;
+        looks::round(&mut looking, counts)?;
         rounds += 1;
     }
     println!(

@@ -20,6 +20,9 @@ pub fn answer(input: &Input) -> Ours {
         Kind::Stream => stream(input),
         Kind::Needed => Ours::values(vec![SYSEX8.words_for(input.numbers[0] as usize) as u64]),
         Kind::Origin => origin(input),
+        Kind::LookRun => look_run(input),
+        Kind::LookByte => look_byte(input),
+        Kind::LookMessage => look_message(input),
         _ => rewrite(input),
     }
 }
@@ -330,7 +333,7 @@ fn edits_of(numbers: &[u64], size: u64, bytes: usize) -> Result<Vec<Edit>, u8> {
         .chunks_exact(3)
         .map(|edit| [edit[0], edit[1], edit[2]])
         .collect();
-    let bad = |&[from, to, length]: &Edit| from > to || to > size || length > MOST_BYTES;
+    let bad = |&[from, to, length]: &Edit| from > to || to > size || to.max(length) > MOST_BYTES;
     let lengths = edits.iter().map(|edit| u128::from(edit[2])).sum::<u128>();
     if numbers.len() % 3 != 0 || edits.iter().any(bad) || lengths != bytes as u128 {
         return Err(13);
@@ -425,6 +428,75 @@ fn origin(input: &Input) -> Ours {
         refusal: number,
         ..written(values, new as i64 - old as i64, words)
     }
+}
+
+/// A run of a payload with one edit, by sizes alone: source, start and end. The result is three parts end to end: the payload up
+/// to the edit, the replacement, and the payload behind the edit. The run is what is left of the part that the position is in.
+fn look_run(input: &Input) -> Ours {
+    let number = |index: usize| input.numbers[index];
+    let [size, from, to, length] = [0, 1, 2, 3].map(number);
+    let refused = Ours {
+        values: vec![0, 0, 0],
+        ..Ours::refused(13, 0, &[])
+    };
+    if from > to || to > size || to.max(length) > MOST_BYTES {
+        return refused;
+    }
+    let mut before = 0_u128;
+    for (source, (start, end)) in [(0, from), (0, length), (to, size)].into_iter().enumerate() {
+        let into = u128::from(number(4)) - before;
+        if into < u128::from(end - start) {
+            return Ours::values(vec![source as u64, start + into as u64, end]);
+        }
+        before += u128::from(end - start);
+    }
+    refused
+}
+
+/// The byte at a position of a payload with all edits of a list, which are spliced from the last to the first.
+fn edited_byte(payload: &[u8], numbers: &[u64], bytes: &[u8], position: u64) -> Ours {
+    let refused = |number: u8| Ours {
+        values: vec![0],
+        ..Ours::refused(number, 0, &[])
+    };
+    let edits = match edits_of(numbers, payload.len() as u64, bytes.len()) {
+        Err(number) => return refused(number),
+        Ok(edits) => edits,
+    };
+    let (mut payload, mut rest) = (payload.to_vec(), bytes);
+    for &[from, to, length] in edits.iter().rev() {
+        let (others, own) = rest.split_at(rest.len() - length as usize);
+        payload.splice(from as usize..to as usize, own.iter().copied());
+        rest = others;
+    }
+    let place = usize::try_from(position).unwrap_or(usize::MAX);
+    match payload.get(place) {
+        Some(&byte) => Ours::values(vec![byte.into()]),
+        None => refused(13),
+    }
+}
+
+/// A byte of an edited payload, whose bytes stand before those of the edits.
+fn look_byte(input: &Input) -> Ours {
+    let (payload, bytes) = input.bytes.split_at(input.numbers[0] as usize);
+    edited_byte(payload, &input.numbers[2..], bytes, input.numbers[1])
+}
+
+/// A byte of an edited message.
+fn look_message(input: &Input) -> Ours {
+    if let Err((number, place)) = check(&SYSEX8, &input.words, input.numbers[0]) {
+        return Ours {
+            values: vec![0],
+            ..Ours::refused(number, place, &[])
+        };
+    }
+    let payload = SYSEX8.payload(input.message());
+    edited_byte(
+        &payload,
+        &input.numbers[2..],
+        &input.bytes,
+        input.numbers[1],
+    )
 }
 
 /// Byte stream to SysEx7. Between F0 and F7 a real-time byte, F8 to FF, is passed over, and one of 80 to F7 is refused;

@@ -63,7 +63,9 @@ pub fn answer(input: &Input) -> Theirs {
         Kind::SpliceLent | Kind::PayloadLent => splice_lent(input),
         Kind::Stream => stream(input),
         Kind::Needed => needed(input),
-        Kind::Origin => unreachable!("the original has no such call"),
+        Kind::Origin | Kind::LookRun | Kind::LookByte | Kind::LookMessage => {
+            unreachable!("the original has no such call")
+        }
     }
 }
 

@@ -49,6 +49,15 @@ mod calls {
     }
 
     #[repr(C)]
+    pub struct Run {
+        pub refusal: u8,
+        pub place: usize,
+        pub source: u8,
+        pub start: usize,
+        pub end: usize,
+    }
+
+    #[repr(C)]
     pub struct Cursor {
         pub refusal: u8,
         pub place: usize,
@@ -104,6 +113,9 @@ mod calls {
         pub fn latchbeacon_sysex8_set_payload(words: WordsOut, lent: usize, length: usize, bytes: Bytes, size: usize) -> Change;
         pub fn latchbeacon_sysex8_splice_all(words: WordsOut, lent: usize, length: usize, numbers: Numbers, count: usize, bytes: Bytes, size: usize) -> Change;
         pub fn latchbeacon_sysex8_origin(words: Words, lent: usize, length: usize, numbers: Numbers, count: usize, bytes: Bytes, size: usize, octet: usize) -> Origin;
+        pub fn latchbeacon_look_run(payload: usize, from: usize, to: usize, replacement: usize, position: usize) -> Run;
+        pub fn latchbeacon_look_byte(payload: Bytes, lent: usize, numbers: Numbers, count: usize, bytes: Bytes, size: usize, position: usize) -> Number;
+        pub fn latchbeacon_sysex8_look_byte(words: Words, lent: usize, length: usize, numbers: Numbers, count: usize, bytes: Bytes, size: usize, position: usize) -> Number;
         pub fn latchbeacon_sysex8_open(words: Words, lent: usize, length: usize) -> Cursor;
         pub fn latchbeacon_sysex8_next(words: Words, lent: usize, packet: usize, byte: usize, remaining: usize) -> Read;
         pub fn latchbeacon_sysex8_nth(words: Words, lent: usize, packet: usize, byte: usize, remaining: usize, skip: usize) -> Read;
@@ -135,6 +147,9 @@ pub fn answer(input: &Input) -> Ours {
         }
         Kind::Pack => pack(input),
         Kind::Origin => origin(input),
+        Kind::LookRun => look_run(input),
+        Kind::LookByte => look_byte(input),
+        Kind::LookMessage => look_message(input),
         _ => splice(input),
     }
 }
@@ -481,6 +496,92 @@ fn origin(input: &Input) -> Ours {
         growth: change.growth,
         words,
     }
+}
+
+/// An answer of one number with the value that it has, also where it refuses.
+fn whole(answer: Number) -> Ours {
+    Ours {
+        values: vec![answer.value as u64],
+        ..one(answer)
+    }
+}
+
+/// A run of an edited payload, with the values that it has, also where it refuses.
+fn look_run(input: &Input) -> Ours {
+    let [payload, from, to, size, position] = [0, 1, 2, 3, 4].map(|index| number(input, index));
+    let run = unsafe { latchbeacon_look_run(payload, from, to, size, position) };
+    Ours {
+        refusal: run.refusal,
+        place: run.place as u64,
+        values: vec![run.source.into(), run.start as u64, run.end as u64],
+        ..Ours::default()
+    }
+}
+
+/// The numbers of the edits of a look.
+fn look_edits(input: &Input) -> Vec<usize> {
+    let numbers = input.numbers[2..].iter();
+    numbers.map(|&number| number as usize).collect()
+}
+
+/// A byte of an edited payload.
+fn look_byte(input: &Input) -> Ours {
+    let (payload, bytes) = input.bytes.split_at(number(input, 0));
+    let (edits, position) = (look_edits(input), number(input, 1));
+    whole(unsafe {
+        latchbeacon_look_byte(
+            payload.as_ptr(),
+            payload.len(),
+            edits.as_ptr(),
+            edits.len(),
+            bytes.as_ptr(),
+            bytes.len(),
+            position,
+        )
+    })
+}
+
+/// A byte of an edited message.
+fn look_message(input: &Input) -> Ours {
+    let (length, position, edits) = (number(input, 0), number(input, 1), look_edits(input));
+    whole(unsafe {
+        latchbeacon_sysex8_look_byte(
+            input.words.as_ptr(),
+            input.words.len(),
+            length,
+            edits.as_ptr(),
+            edits.len(),
+            input.bytes.as_ptr(),
+            input.bytes.len(),
+            position,
+        )
+    })
+}
+
+/// The edits of a look at a message, done at once in a copy of its words and of so many more: the refusal and its place, and the
+/// message that is left.
+pub fn look_spliced(input: &Input, more: usize) -> ((u8, u64), Vec<u32>) {
+    let (mut words, length, edits) = (input.words.clone(), number(input, 0), look_edits(input));
+    words.resize(words.len() + more, 0);
+    let change = unsafe {
+        latchbeacon_sysex8_splice_all(
+            words.as_mut_ptr(),
+            words.len(),
+            length,
+            edits.as_ptr(),
+            edits.len(),
+            input.bytes.as_ptr(),
+            input.bytes.len(),
+        )
+    };
+    words.truncate(change.length);
+    ((change.refusal, change.place as u64), words)
+}
+
+/// A payload byte of a message that is all of the words.
+pub fn byte(words: &[u32], index: usize) -> Ours {
+    let (lent, length) = (words.len(), words.len());
+    whole(unsafe { latchbeacon_sysex8_byte(words.as_ptr(), lent, length, index) })
 }
 
 /// Byte stream to SysEx7.

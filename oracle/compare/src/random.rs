@@ -14,6 +14,11 @@ impl Random {
         Random(seed ^ 1 << 63)
     }
 
+    /// Another generator for the same seed, for looks.
+    pub fn looking(seed: u64) -> Random {
+        Random(seed ^ 1 << 62)
+    }
+
     /// The next 64 bits.
     pub fn bits(&mut self) -> u64 {
         self.0 = self.0.wrapping_add(0x9E37_79B9_7F4A_7C15);

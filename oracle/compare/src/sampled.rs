@@ -95,7 +95,7 @@ pub fn longest_streams(random: &mut Random, counts: &mut Counts) -> Result<(), S
 }
 
 /// A valid message of a number of packets, all but the last full or, if uneven, of 1 to 13 bytes.
-fn of_packets(random: &mut Random, packets: usize, last: usize, uneven: bool) -> Vec<u32> {
+pub fn of_packets(random: &mut Random, packets: usize, last: usize, uneven: bool) -> Vec<u32> {
     let mut sizes = vec![13; packets];
     if uneven {
         sizes

@@ -1,26 +1,29 @@
 //! One comparison of ours with the model, and what came out, how often.
-use crate::layout::MOST_WORDS;
+use crate::layout::{MOST_WORDS, SYSEX8};
 use crate::{model, port};
 
 /// The calls, and the refusals that each can give, 0 for none.
-const CALLS: [(&str, &[usize]); 5] = [
+const CALLS: [(&str, &[usize]); 6] = [
     ("check", &[0, 21, 22, 23]),
     ("describe", &[0, 13, 21, 22, 23, 24, 25]),
     ("restore", &[0, 1, 13, 14, 21, 22, 23, 24, 25]),
     ("mark", &[0, 21, 22, 23, 24]),
     ("collect", &[0, 21, 22, 23]),
+    ("look", &[0, 13, 21, 22, 23, 24, 25]),
 ];
 
-/// How often each call gave each refusal, 0 for none; what was described and restored; and of collections, how many dumps they freed,
-/// and how many unwanted ones they kept.
+/// How often each call gave each refusal, 0 for none; what was described and restored; of collections, how many dumps they freed, and
+/// how many unwanted ones they kept; and of looks, how many came to bytes of deltas, and to a position past the payload.
 pub struct Counts {
-    outcomes: [[u64; 26]; 5],
+    outcomes: [[u64; 26]; 6],
     stores: u64,
     deltas: u64,
     longest: usize,
     largest: usize,
     freed: u64,
     kept: u64,
+    looked: u64,
+    past: u64,
 }
 
 /// What restoring answered, and the words lent.
@@ -52,13 +55,15 @@ impl Counts {
     /// No counts yet.
     pub fn new() -> Counts {
         Counts {
-            outcomes: [[0; 26]; 5],
+            outcomes: [[0; 26]; 6],
             stores: 0,
             deltas: 0,
             longest: 0,
             largest: 0,
             freed: 0,
             kept: 0,
+            looked: 0,
+            past: 0,
         }
     }
 
@@ -123,6 +128,51 @@ impl Counts {
         Ok(())
     }
 
+    /// Compares the bytes of a dump at these positions.
+    pub fn look(
+        &mut self,
+        store: &[u8],
+        number: usize,
+        positions: impl IntoIterator<Item = usize>,
+    ) -> Result<(), String> {
+        let payload = model::payload(store, number);
+        for position in positions {
+            let model = model::look_answer(&payload, position);
+            let ours = port::look(store, number, position);
+            if model != ours {
+                let call = format!("look at {position} of {number}");
+                let [model, ours] = [model, ours].map(|answer| format!("{answer:?}"));
+                return Err(fault(&call, store, model, ours));
+            }
+            self.outcomes[5][model[0]] += 1;
+        }
+        Ok(())
+    }
+
+    /// Compares all bytes of a dump, and positions past them; and ours with ours, what is described and restored.
+    pub fn look_at_all(&mut self, store: &[u8], number: usize) -> Result<(), String> {
+        let dump = port::describe(store, number);
+        self.look(store, number, (0..dump[6] + 2).chain([usize::MAX]))?;
+        let words = vec![0; dump[7].min(MOST_WORDS)];
+        let ([refusal, _, length], words) = port::restore(store, number, &words);
+        let payload = match [dump[0], refusal] {
+            [0, 0] => SYSEX8.payload(&words[..length]),
+            _ => return Ok(()),
+        };
+        for position in 0..=payload.len() {
+            let wanted = match payload.get(position) {
+                Some(&byte) => [0, 0, byte.into()],
+                None => [13, 0, 0],
+            };
+            if port::look(store, number, position) != wanted {
+                return self.wrong("a look is not what is restored", store, number);
+            }
+        }
+        self.looked += (dump[2] * payload.len()) as u64;
+        self.past += 1;
+        Ok(())
+    }
+
     /// Compares a call that may change the bytes of a store, the `which`-th: the answer and every byte lent.
     fn changed(
         &mut self,
@@ -182,8 +232,11 @@ impl Counts {
         self.outcomes.iter().flatten().sum()
     }
 
-    /// The first call and refusal that never came, or that no dump was freed, or no unwanted one kept.
+    /// The first call and refusal that never came, or that no dump was freed, no unwanted one kept, no byte of a delta looked at.
     pub fn never(&self) -> Option<String> {
+        if self.looked == 0 || self.past == 0 {
+            return Some("no byte of a delta was looked at, or no position past a payload".into());
+        }
         if self.freed == 0 || self.kept == 0 {
             return Some("no dump was freed, or no unwanted one kept".into());
         }
@@ -220,6 +273,10 @@ impl Counts {
         println!(
             "collections freed {} dumps and kept {} unwanted ones",
             self.freed, self.kept
+        );
+        println!(
+            "{} bytes of deltas, and the end of {} dumps, looked at as they are restored",
+            self.looked, self.past
         );
     }
 }

@@ -1,4 +1,4 @@
-//! Compares the calls of a store with a plain model of 02's T-02 and T-13. See oracle/README.md.
+//! Compares the calls of a store with a plain model of 02's T-02, T-13 and T-08. See oracle/README.md.
 mod compare;
 #[allow(dead_code)]
 #[path = "../../compare/src/layout.rs"]
@@ -33,7 +33,8 @@ fn run(seed: u64, stores: u64) -> Result<(), String> {
         counts.total()
     );
     let mut counts = Counts::new();
-    random_stores::run(&mut Random::new(seed), stores, &mut counts)?;
+    let randoms = [Random::new(seed), Random::looking(seed)];
+    random_stores::run(randoms, stores, &mut counts)?;
     let seconds = start.elapsed().as_secs_f64();
     println!("{stores} random stores, seed {seed}, {seconds:.1} s\n");
     counts.print();

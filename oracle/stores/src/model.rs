@@ -1,4 +1,4 @@
-//! The rules of 02's T-02 and T-13, stated once more and plainly: what the calls of a store must answer. It shares no text with our
+//! The rules of 02's T-02, T-13 and T-08, stated once more and plainly: what the calls of a store must answer. It shares no text with our
 //! code: it reads by the grammar, follows the bases with a list of those passed, and splices the edits from the last to the first.
 //! What is kept is a set of numbers that bases are added to until none is new.
 use crate::layout::{MOST_WORDS, SYSEX8};
@@ -284,6 +284,23 @@ pub fn restore_answer(store: &[u8], number: usize, words: &[u32]) -> ([usize; 3]
             message.resize(words.len(), 0);
             ([0, 0, length], message)
         }
+    }
+}
+
+/// The payload of a dump, with no limit of words.
+pub fn payload(store: &[u8], number: usize) -> Result<Vec<u8>, Refusal> {
+    let dumps = check(store)?;
+    Ok(restored(&walk(&dumps, number)?, None)?.payload)
+}
+
+/// A byte of a dump's payload: refusal, place, byte.
+pub fn look_answer(payload: &Result<Vec<u8>, Refusal>, position: usize) -> [usize; 3] {
+    match payload {
+        Err(refusal) => [usize::from(*refusal), 0, 0],
+        Ok(bytes) => match bytes.get(position) {
+            Some(&byte) => [0, 0, byte.into()],
+            None => [13, 0, 0],
+        },
     }
 }
 

@@ -25,6 +25,7 @@ extern "C" {
     fn latchbeacon_store_check(store: *const u8, store_size: usize) -> Number;
     fn latchbeacon_store_describe(store: *const u8, store_size: usize, number: usize) -> Dump;
     fn latchbeacon_store_restore(store: *const u8, store_size: usize, number: usize, words: *mut u32, words_lent: usize) -> Number;
+    fn latchbeacon_store_look_byte(store: *const u8, store_size: usize, number: usize, position: usize) -> Number;
     fn latchbeacon_store_mark(store: *mut u8, store_size: usize, number: usize) -> Number;
     fn latchbeacon_store_collect(store: *mut u8, store_size: usize) -> Number;
 }
@@ -71,6 +72,12 @@ pub fn restore(store: &[u8], number: usize, words: &[u32]) -> ([usize; 3], Vec<u
         "words that are not lent"
     );
     (fields(answer), room[1..=lent].to_vec())
+}
+
+/// A byte of a dump's payload: refusal, place, byte.
+pub fn look(store: &[u8], number: usize, position: usize) -> [usize; 3] {
+    let (address, size) = (store.as_ptr(), store.len());
+    fields(unsafe { latchbeacon_store_look_byte(address, size, number, position) })
 }
 
 /// A call that may change the bytes of a store: its answer, and all bytes lent after it. The bytes beside them must stay.

@@ -2,6 +2,7 @@
 //! unwanted dumps; and damaged copies.
 use crate::compare::Counts;
 use crate::layout::MOST_WORDS;
+use crate::port;
 use crate::random::Random;
 use crate::reclaimed;
 use crate::records::{pair, record};
@@ -252,8 +253,44 @@ fn reclaim(
     reclaimed::collect(counts, &store, &watched)
 }
 
-/// Compares one random store: the check, then two to four dumps, each described and restored, then marking and collecting.
-fn one(random: &mut Random, counts: &mut Counts) -> Result<(), String> {
+/// Looks at some bytes of a dump: anywhere, around the end, and far past it.
+fn look(
+    random: &mut Random,
+    counts: &mut Counts,
+    store: &[u8],
+    number: usize,
+) -> Result<(), String> {
+    let size = port::describe(store, number)[6];
+    let any = [(); 2].map(|()| random.below(size + 1));
+    let ends = [size.saturating_sub(1), size, usize::MAX];
+    counts.look(store, number, any.into_iter().chain(ends))
+}
+
+/// Looks at all dumps of a small store or some of a large one, and at one that may not be held; once in ten at every byte of a small
+/// dump.
+fn look_around(
+    random: &mut Random,
+    counts: &mut Counts,
+    store: &[u8],
+    numbers: &[u16],
+) -> Result<(), String> {
+    let mut watched: Vec<usize> = match numbers.len() {
+        0..=9 => numbers.iter().copied().map(usize::from).collect(),
+        _ => (0..3).map(|_| random.pick(numbers).into()).collect(),
+    };
+    watched.push(asked(random, numbers));
+    for number in watched {
+        look(random, counts, store, number)?;
+        if random.once_in(10) && port::describe(store, number)[6] < 100 {
+            counts.look_at_all(store, number)?;
+        }
+    }
+    Ok(())
+}
+
+/// Compares one random store: the check, then two to four dumps, each described and restored, then looks, then marking and
+/// collecting. Looks have numbers of their own, so that all else is the same with and without them.
+fn one(random: &mut Random, looking: &mut Random, counts: &mut Counts) -> Result<(), String> {
     let (mut store, numbers) = store(random);
     if random.once_in(4) {
         store = damaged(random, store);
@@ -265,6 +302,7 @@ fn one(random: &mut Random, counts: &mut Counts) -> Result<(), String> {
         let count = lent(random, dump[7].max(4));
         counts.restore(&store, number, &words(random, count))?;
     }
+    look_around(looking, counts, &store, &numbers)?;
     reclaim(random, counts, store, &numbers)
 }
 
@@ -274,9 +312,13 @@ fn marked(counts: &mut Counts, store: &[u8], number: usize) -> Result<Vec<u8>, S
     marked.map_err(|refusal| format!("marking {number} of a long chain is refused with {refusal}"))
 }
 
-/// A store with a long chain of deltas of ten edits each over some 53,000 bytes; its last dump, in words enough and one fewer; and
-/// collected, with any dumps wanted, and then with none above one of them.
-fn long_chain(random: &mut Random, counts: &mut Counts) -> Result<(), String> {
+/// A store with a long chain of deltas of ten edits each over some 53,000 bytes; its last dump, in words enough and one fewer, and
+/// looked at; and collected, with any dumps wanted, and then with none above one of them.
+fn long_chain(
+    random: &mut Random,
+    looking: &mut Random,
+    counts: &mut Counts,
+) -> Result<(), String> {
     let size = random.between(52_900, 53_000);
     let head = record(0x01, &[0, 0, random.below(16) as u8, random.byte()]);
     let mut store = [head, data(random, size)].concat();
@@ -292,6 +334,8 @@ fn long_chain(random: &mut Random, counts: &mut Counts) -> Result<(), String> {
     counts.check(&store)?;
     let start = words(random, MOST_WORDS);
     counts.both(&store, 255, &start)?;
+    let places = (0..50).map(|_| looking.below(53_000));
+    counts.look(&store, 255, places)?;
     let last = random.between(100, 254);
     for number in 0..last {
         if random.once_in(2) {
@@ -305,12 +349,13 @@ fn long_chain(random: &mut Random, counts: &mut Counts) -> Result<(), String> {
     reclaimed::collect(counts, &store, &[last, 255])
 }
 
-/// So many random stores.
-pub fn run(random: &mut Random, stores: u64, counts: &mut Counts) -> Result<(), String> {
+/// So many random stores. The second generator is that of looks.
+pub fn run(randoms: [Random; 2], stores: u64, counts: &mut Counts) -> Result<(), String> {
+    let [mut random, mut looking] = randoms;
     for index in 0..stores {
-        one(random, counts)?;
+        one(&mut random, &mut looking, counts)?;
         if index % 10_000 == 0 {
-            long_chain(random, counts)?;
+            long_chain(&mut random, &mut looking, counts)?;
         }
     }
     Ok(())

@@ -1,6 +1,7 @@
 //! Stores with what they must answer, made by hand. Ours and the model are both held to it.
 use crate::compare::{Changed, Counts};
 use crate::layout::SYSEX8;
+use crate::port;
 use crate::records::{data, delta, gone, pair, record, whole};
 
 /// What restoring must come to: a payload, of group 3 and stream id 9, or a refusal.
@@ -385,11 +386,32 @@ fn run_reclaimed(counts: &mut Counts) -> Result<usize, String> {
     Ok(samples.len())
 }
 
+/// What looking must come to: each byte of the payload, and then Range; or the refusal, if it is not for the words lent.
+fn look(counts: &mut Counts, store: &[u8], number: usize, wanted: &Wanted) -> Result<bool, String> {
+    counts.look(store, number, [0, 1, usize::MAX])?;
+    let looked = |position| port::look(store, number, position);
+    Ok(match wanted {
+        Refused(1 | 14) => true,
+        Refused(number) => looked(0) == [*number, 0, 0],
+        Payload(payload) => {
+            let bytes = (0..payload.len()).map(|position| [0, 0, payload[position].into()]);
+            bytes
+                .chain([[13, 0, 0]])
+                .eq((0..=payload.len()).map(looked))
+        }
+    })
+}
+
 /// Runs all samples; answers how many there are.
 pub fn run(counts: &mut Counts) -> Result<usize, String> {
     let lists = [restored(), on_the_walk(), format(), others()];
     let samples: Vec<Sample> = lists.into_iter().flatten().collect();
     for (name, store, number, lent, wanted) in &samples {
+        if !look(counts, store, *number, wanted)? {
+            return Err(format!(
+                "{name}: looked at, not what was worked out by hand"
+            ));
+        }
         let before = vec![0x0102_0304; *lent];
         let wanted = match wanted {
             Refused(number) => ([*number, 0, 0], before.clone()),

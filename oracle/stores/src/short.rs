@@ -55,6 +55,7 @@ fn records(counts: &mut Counts) -> Result<(), String> {
         counts.check(&store)?;
         counts.describe(&store, 1)?;
         counts.restore(&store, 1, &WORDS)?;
+        counts.look(&store, 1, [0, 1])?;
         _ = counts.mark(&store, 1)?;
         counts.collect(&store).map(drop)
     })
@@ -81,6 +82,7 @@ fn walks(counts: &mut Counts) -> Result<(), String> {
             counts.check(&store)?;
             for number in 0..=count {
                 counts.both(&store, number.into(), &WORDS[..4])?;
+                counts.look_at_all(&store, number.into())?;
             }
         }
     }
@@ -127,7 +129,8 @@ fn edits(counts: &mut Counts) -> Result<(), String> {
         rows(&all, 2, &mut Vec::new(), &mut |list| {
             let store = [&delta(2, 1, list)[..], &base].concat();
             counts.check(&store)?;
-            counts.both(&store, 2, &WORDS)
+            counts.both(&store, 2, &WORDS)?;
+            counts.look_at_all(&store, 2)
         })?;
     }
     Ok(())
@@ -146,6 +149,8 @@ fn sizes(counts: &mut Counts) -> Result<(), String> {
                 counts.restore(&store, 2, &words)?;
                 counts.restore(&store, 3, &words)?;
             }
+            counts.look_at_all(&store, 2)?;
+            counts.look_at_all(&store, 3)?;
         }
     }
     Ok(())
@@ -169,10 +174,21 @@ fn boundaries(counts: &mut Counts) -> Result<(), String> {
                     }
                 }
                 counts.describe(&store, 3)?;
+                for number in 1..=3 {
+                    let (old, new) = (usize::from(old), usize::from(new));
+                    let ends = [0, 1, old, new, usize::MAX];
+                    counts.look(&store, number, ends.into_iter().flat_map(near))?;
+                }
             }
         }
     }
     Ok(())
+}
+
+/// The positions around one.
+fn near(position: usize) -> [usize; 3] {
+    let [before, after] = [position.saturating_sub(1), position.saturating_add(1)];
+    [before, position, after]
 }
 
 /// All of them.

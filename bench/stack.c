@@ -18,9 +18,9 @@ static uint8_t store[1 << 17];
 static size_t store_size;
 static uint32_t words[16384];
 
-enum which { CHECK, DESCRIBE, RESTORE, MARK, COLLECT };
+enum which { CHECK, DESCRIBE, RESTORE, LOOK, MARK, COLLECT };
 
-/* A call: its name, which it is, the number that it asks for, the words lent and the refusal that it must give. */
+/* A call: its name, which it is, the number that it asks for, the words lent, or the position, and the refusal that it must give. */
 struct call {
     const char *name;
     enum which which;
@@ -70,6 +70,7 @@ static void *make(void *argument) {
     top = (size_t)(&here - stack);
     uint8_t refusal = call->which == CHECK      ? latchbeacon_store_check(store, store_size).refusal
                       : call->which == DESCRIBE ? latchbeacon_store_describe(store, store_size, call->number).refusal
+                      : call->which == LOOK     ? latchbeacon_store_look_byte(store, store_size, call->number, call->lent).refusal
                       : call->which == MARK     ? latchbeacon_store_mark(store, store_size, call->number).refusal
                       : call->which == COLLECT  ? latchbeacon_store_collect(store, store_size).refusal
                                                 : latchbeacon_store_restore(store, store_size, call->number, words, call->lent).refusal;
@@ -105,6 +106,8 @@ int main(void) {
     good = measure((struct call){"describe, the last delta", DESCRIBE, last, 0, 0}) && good;
     good = measure((struct call){"restore, the whole dump", RESTORE, 0, 16384, 0}) && good;
     good = measure((struct call){"restore, the last delta", RESTORE, last, 16384, 0}) && good;
+    good = measure((struct call){"look, the whole dump", LOOK, 0, SIZE / 2, 0}) && good;
+    good = measure((struct call){"look, the last delta", LOOK, last, SIZE / 2, 0}) && good;
     good = measure((struct call){"mark, the last delta", MARK, last, 0, 0}) && good;
     good = measure((struct call){"collect, 255 deltas on 53,000 bytes, the last goes", COLLECT, 0, 0, 0}) && good;
     store_size = 0;
@@ -112,6 +115,7 @@ int main(void) {
     good = measure((struct call){"describe, a ring of 256 dumps", DESCRIBE, 0, 0, LATCHBEACON_RING}) && good;
     good = measure((struct call){"restore, a ring of 256 dumps", RESTORE, 0, 16384, LATCHBEACON_RING}) && good;
     good = measure((struct call){"restore, the same, 1,024 words lent", RESTORE, 0, 1024, LATCHBEACON_RING}) && good;
+    good = measure((struct call){"look, a ring of 256 dumps", LOOK, 0, 0, LATCHBEACON_RING}) && good;
     good = measure((struct call){"collect, a ring of 256 dumps", COLLECT, 0, 0, 0}) && good;
     return good ? 0 : 1;
 }

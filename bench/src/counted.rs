@@ -1,5 +1,5 @@
 //! One call so many times, so that the instructions that it takes can be counted from outside.
-use crate::{chains, inputs, iterating, original, port};
+use crate::{chains, inputs, iterating, looks, original, port};
 use std::hint::black_box;
 
 /// Who is called: ours, the original's bare call, or the original with its check before it.
@@ -79,6 +79,19 @@ fn origin(side: Side, words: &[u32], size: usize) -> Option<Box<dyn FnMut()>> {
     (side == Side::Port).then(|| Box::new(call) as Box<dyn FnMut()>)
 }
 
+/// A look at the byte in the middle of a payload, or of its message, with so many edits. Ours alone.
+fn look(side: Side, size: usize, count: usize, of_message: bool) -> Option<Box<dyn FnMut()>> {
+    let (bytes, list, position) = (inputs::bytes(size), inputs::list(size, count, false), looks::middle(size));
+    let words = inputs::packed(&bytes);
+    let call = move || {
+        _ = black_box(match of_message {
+            true => port::look_message(black_box(&words), &list.numbers, &list.bytes, black_box(position)),
+            false => port::look_byte(black_box(&bytes), &list.numbers, &list.bytes, black_box(position)),
+        })
+    };
+    (side == Side::Port).then(|| Box::new(call) as Box<dyn FnMut()>)
+}
+
 /// A byte stream to SysEx7 packets. With a clock byte behind each data byte only ours takes it.
 fn stream(side: Side, size: usize, clock: bool) -> Option<Box<dyn FnMut()>> {
     let mut room = original::Stream::new(&inputs::stream(size, false)).words();
@@ -95,7 +108,7 @@ fn stream(side: Side, size: usize, clock: bool) -> Option<Box<dyn FnMut()>> {
     Some(call)
 }
 
-/// A call of a store of dumps: restore, check or describe, of the long chain, of a whole dump, of three small dumps. Ours alone.
+/// A call of a store of dumps: restore, check, describe or look, of the long chain, of a whole dump, of three small dumps. Ours alone.
 fn store(name: &str, side: Side, size: usize) -> Option<Box<dyn FnMut()>> {
     let (call, kind) = name.split_once('_')?;
     let store = match kind {
@@ -111,6 +124,7 @@ fn store(name: &str, side: Side, size: usize) -> Option<Box<dyn FnMut()>> {
         "restore" => Box::new(move || _ = black_box(port::restore(black_box(&bytes), last, black_box(&mut words)))),
         "check" => Box::new(move || _ = black_box(port::check_store(black_box(&bytes)))),
         "describe" => Box::new(move || _ = black_box(port::describe(black_box(&bytes), last))),
+        "look" => Box::new(move || _ = black_box(port::look_store(black_box(&bytes), last, looks::middle(size)))),
         _ => return None,
     })
 }
@@ -170,6 +184,10 @@ pub fn run(arguments: &[String]) -> bool {
         "list_16" => Some(list(side, &words, size, 16)),
         "list_200" => Some(list(side, &words, size, 200)),
         "origin" => origin(side, &words, size),
+        "look_2" => look(side, size, 2, false),
+        "look_200" => look(side, size, 200, false),
+        "look_message_2" => look(side, size, 2, true),
+        "look_message_200" => look(side, size, 200, true),
         "stream" => stream(side, size, false),
         "clocked_stream" => stream(side, size, true),
         name => small(name, side, &words, size).or_else(|| store(name, side, size)),

@@ -1,12 +1,13 @@
 //! Times the original and the port on the same inputs in one run: ns per call, best of many, ratios and goals; how the time of a list of
-//! edits grows; then the calls of a store of dumps, which the port alone has. With the word `chain` it times these alone, with more words
-//! it does one call so many times (counted.rs).
+//! edits grows; then the calls of a store of dumps, and looks, which the port alone has. With the word `chain` or `look` it times these
+//! alone, with more words it does one call so many times (counted.rs).
 mod calls;
 mod chains;
 mod counted;
 mod inputs;
 mod iterating;
 mod lists;
+mod looks;
 mod original;
 mod port;
 mod table;
@@ -35,8 +36,11 @@ fn main() {
     if arguments == ["chain"] {
         return chains::run();
     }
+    if arguments == ["look"] {
+        return looks::run();
+    }
     if !arguments.is_empty() {
-        assert!(counted::run(&arguments), "chain, or CALL SIDE SIZE TIMES");
+        assert!(counted::run(&arguments), "chain, look, or CALL SIDE SIZE TIMES");
         return;
     }
     table::head();
@@ -45,4 +49,6 @@ fn main() {
     lists::growth();
     println!();
     chains::run();
+    println!();
+    looks::run();
 }

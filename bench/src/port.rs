@@ -88,10 +88,30 @@ extern "C" {
         bytes_lent: usize,
         octet: usize,
     ) -> Origin;
+    fn latchbeacon_look_byte(
+        payload: *const u8,
+        payload_size: usize,
+        numbers: *const usize,
+        numbers_lent: usize,
+        bytes: *const u8,
+        bytes_lent: usize,
+        position: usize,
+    ) -> Number;
+    fn latchbeacon_sysex8_look_byte(
+        words: Words,
+        lent: usize,
+        length: usize,
+        numbers: *const usize,
+        numbers_lent: usize,
+        bytes: *const u8,
+        bytes_lent: usize,
+        position: usize,
+    ) -> Number;
     fn latchbeacon_bytes_to_sysex7(bytes: *const u8, bytes_lent: usize, group: u8, words: Room, lent: usize) -> Number;
     fn latchbeacon_store_check(store: *const u8, store_size: usize) -> Number;
     fn latchbeacon_store_describe(store: *const u8, store_size: usize, number: usize) -> Dump;
     fn latchbeacon_store_restore(store: *const u8, store_size: usize, number: usize, words: Room, lent: usize) -> Number;
+    fn latchbeacon_store_look_byte(store: *const u8, store_size: usize, number: usize, position: usize) -> Number;
     fn latchbeacon_store_mark(store: *mut u8, store_size: usize, number: usize) -> Number;
     fn latchbeacon_store_collect(store: *mut u8, store_size: usize) -> Number;
 }
@@ -149,6 +169,25 @@ pub fn origin(words: &[u32], edits: &[usize], bytes: &[u8], octet: usize) -> (u8
     (answer.kind, answer.number, answer.index)
 }
 
+/// The byte at a position of a payload once all edits are done.
+pub fn look_byte(payload: &[u8], edits: &[usize], bytes: &[u8], position: usize) -> u8 {
+    let (address, size) = (payload.as_ptr(), payload.len());
+    let (numbers, count) = (edits.as_ptr(), edits.len());
+    let answer = unsafe { latchbeacon_look_byte(address, size, numbers, count, bytes.as_ptr(), bytes.len(), position) };
+    assert!(answer.refusal == 0);
+    answer.value as u8
+}
+
+/// The same of a message.
+pub fn look_message(words: &[u32], edits: &[usize], bytes: &[u8], position: usize) -> u8 {
+    let (address, lent) = (words.as_ptr(), words.len());
+    let (numbers, count) = (edits.as_ptr(), edits.len());
+    let answer =
+        unsafe { latchbeacon_sysex8_look_byte(address, lent, lent, numbers, count, bytes.as_ptr(), bytes.len(), position) };
+    assert!(answer.refusal == 0);
+    answer.value as u8
+}
+
 /// A byte stream to SysEx7 packets of group 0, which fill the words.
 pub fn stream(bytes: &[u8], words: &mut [u32]) {
     let (to, lent) = (words.as_mut_ptr(), words.len());
@@ -176,6 +215,13 @@ pub fn restore(store: &[u8], number: usize, words: &mut [u32]) -> usize {
     let answer = unsafe { latchbeacon_store_restore(store.as_ptr(), store.len(), number, to, lent) };
     assert!(answer.refusal == 0);
     answer.value
+}
+
+/// The byte at a position of a dump.
+pub fn look_store(store: &[u8], number: usize, position: usize) -> u8 {
+    let answer = unsafe { latchbeacon_store_look_byte(store.as_ptr(), store.len(), number, position) };
+    assert!(answer.refusal == 0);
+    answer.value as u8
 }
 
 /// Marks a dump unwanted.
@@ -219,6 +265,11 @@ impl Bank {
             unsafe { latchbeacon_sysex8_splice_all(words, lent, self.length, edits, count, bytes.as_ptr(), bytes.len()) };
         assert!(answer.refusal == 0);
         self.length = answer.length;
+    }
+
+    /// A byte.
+    pub fn byte(&self, index: usize) -> u8 {
+        byte(&self.words[..self.length], index)
     }
 
     /// A splice.

@@ -154,9 +154,10 @@ pub fn runs<'a>(payload: &'a [u8], range: impl RangeBounds<usize>, replacement: 
 impl<'a> Iterator for Runs<'a> {
     type Item = Run<'a>;
 
-    // The next run; at the end of the result there is none.
+    // The next run; at the end of the result there is none. No run is empty: it would come again for ever.
     fn next(&mut self) -> Option<Run<'a>> {
-        let run = run_of(self.payload, self.range.clone(), self.replacement, self.position).ok()?;
+        let run = run_of(self.payload, self.range.clone(), self.replacement, self.position).ok();
+        let run = run.filter(|run| !run.bytes.is_empty())?;
         self.position = self.position.saturating_add(run.bytes.len());
         Some(run)
     }

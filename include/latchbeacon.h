@@ -409,9 +409,9 @@ latchbeacon_number latchbeacon_store_restore(const uint8_t *store, size_t store_
                                              size_t words_lent);
 
 /* Answers the byte at `position` of the payload that the dump of this number has, without restoring it. It takes any dump that
- * latchbeacon_store_describe takes, also one too long to be restored, and needs no words. It reads the store once, and the records of
- * the dump and of those that it rests on twice more. Refusals, in this order: those of latchbeacon_store_describe, then 13 (position
- * not below the payload size). */
+ * latchbeacon_store_describe takes, also one too long to be restored, and needs no words. It reads the store once, then the records
+ * of the dump and of those that it rests on twice, as that call does, and once more up to the byte. Refusals, in this order: those of
+ * latchbeacon_store_describe, then 13 (position not below the payload size). */
 latchbeacon_number latchbeacon_store_look_byte(const uint8_t *store, size_t store_size, size_t number, size_t position);
 
 /* Marks the dump of this number unwanted: its kind 01 becomes 11 hex, 02 becomes 12, and no other byte is changed. Every number is

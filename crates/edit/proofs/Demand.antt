@@ -1,8 +1,7 @@
 -- Demand 3, and all that an auditor asks, over the promises of the library's calls. Assumes nothing.
 use mathlib.Core.Path.{_≡_, refl, sym, ap, _∙_}
 use mathlib.Core.Bool.{Bool}
-use mathlib.Core.List.{List, [], _∷_}
-use Prim.Native.Nat.{ℕ}
+use mathlib.Core.List.{[], _∷_}
 use lib.Dec.{lit<}
 use Rattle.refusal.specs.Answer.{Answer, gives, refused, mapAnswer}
 use Rattle.refusal.specs.Tight.{lent}

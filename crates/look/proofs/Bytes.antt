@@ -6,7 +6,7 @@ use native.Mathlib.Nat.{add-zero}
 use native.Mathlib.Omega.{arith}
 use lib.ListN.{length, getD, take, drop, length-take, length-drop}
 use lib.Seq.{slice, getD-take, getD-drop}
-use Rattle.refusal.specs.Answer.{Answer, Verdict, gives, refused, pass, _▷_}
+use Rattle.refusal.specs.Answer.{Verdict, gives, refused, pass, _▷_}
 use Rattle.refusal.proofs.Laws.{never-both, never-refused, pass-both}
 use Rattle.ump.specs.Packet.{sysex8}
 use Rattle.ump.specs.Check.{check, payloadOf}

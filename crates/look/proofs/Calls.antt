@@ -4,7 +4,7 @@ use mathlib.Core.List.{List}
 use Prim.Native.Nat.{ℕ}
 use contract.Lifetimes.{Lfts}
 use denote.Ref.{ptr, now}
-use borrow.Fn.Kinds.{Dens, resT}
+use borrow.Fn.Kinds.{Dens}
 use Rattle.refusal.specs.Answer.{gives}
 use Rattle.refusal.specs.Meaning.{byteMeaning}
 use Rattle.refusal.specs.Tight.{Called}

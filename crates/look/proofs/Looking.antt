@@ -1,7 +1,7 @@
 -- Looking at an edited dump is what a full splice would read: of all calls that promise the definitions, of any shape. Assumes nothing.
 use mathlib.Core.Path.{_≡_, refl, sym, ap, _∙_}
 use mathlib.Core.Bool.{Bool, true, false, _||_}
-use mathlib.Core.List.{List, [], _∷_, _++_}
+use mathlib.Core.List.{List, [], _∷_}
 use Prim.Native.Nat.{ℕ, _+_, _-_, _/_, _≤_, _<_}
 use native.Mathlib.Nat.{add-zero}
 use native.Mathlib.Omega.{arith}
@@ -17,7 +17,7 @@ use Rattle.ump.specs.Packing.{wordsFor}
 use Rattle.ump.specs.Limits.{mostBytes}
 use Rattle.ump.specs.Check.{check, payloadOf}
 use Rattle.ump.specs.Setters.{nthByte, getByte}
-use Rattle.ump.specs.Splice.{spliced, Spliced, splice}
+use Rattle.ump.specs.Splice.{spliced, Spliced}
 use Rattle.ump.specs.Edits.{Edit, Patch, badEdit, replaced, editsFrom, editsOf, patchesOf, badList, someOverlap, allChecks, spliceAll}
 use Rattle.ump.specs.Runs.{Run, ofDump, ofEdit, past, runAt}
 use Rattle.ump.specs.Demand.{Family}

@@ -2,12 +2,12 @@
 use mathlib.Core.Path.{_≡_, refl, sym, ap, _∙_, subst}
 use mathlib.Core.Bool.{cond}
 use mathlib.Core.List.{List, [], _∷_, _++_, append-nil}
-use Prim.Native.Nat.{ℕ, zero, suc, _+_, _-_, _≤_, _<_}
+use Prim.Native.Nat.{ℕ, suc, _+_, _-_, _≤_, _<_}
 use native.Mathlib.Nat.{add-zero}
 use native.Mathlib.Numerals.{add-one}
 use native.Mathlib.Omega.{arith}
 use lib.Dec.{ltb}
-use lib.ListN.{length, getD, take, drop, length-append, length-drop, take-append-drop, drop-of-length-le}
+use lib.ListN.{length, getD, take, drop, length-append, length-drop}
 use lib.Seq.{slice, length-slice, take-at, drop-drop, drop-append-le, drop-append-add, take-length, getD-drop, getD-take}
 use Rattle.ump.specs.Edits.{Edit, Patch, noPatch, patchAt, editsFor, replaced}
 use Rattle.ump.specs.Runs.{Run, ofDump, ofEdit, past, runFrom, runAt}

@@ -11,7 +11,7 @@ use Rattle.refusal.proofs.Laws.{never-refused}
 use Rattle.ump.specs.Word.{pairAt}
 use Rattle.ump.specs.Edits.{Patch}
 use Rattle.store.specs.Store.{isWhole, isDump, Dump, delta, dataIn, patchesIn, dumpsOf, held}
-use Rattle.store.specs.Places.{recordAt, nextAt, recordsFrom, dumpAt, Ordered}
+use Rattle.store.specs.Places.{recordAt, nextAt, recordsFrom, dumpAt, DumpBegins, Ordered}
 use Rattle.store.proofs.Checks.{sound-good}
 use Rattle.chain.specs.Restore.{Payload, roomed, restored, unlimited}
 use Rattle.chain.specs.Laying.{wholeAt}
@@ -45,52 +45,59 @@ module _ (store : List ℕ) (n left : ℕ) (h : left ≡ 0 → ⊥) (at : ℕ) (
             ∙ ap (λ (x : Payload). getD (x .bytes) position 0) same;
       }
 
-  module _ (w : isWhole (getD store at 0) ≡ false) where
-    abbrev base : ℕ
-    base = pairAt store (at + 3)
+-- a delta stands at a place, and is the dump of this number
+pub record DeltaHere (store : List ℕ) (n left at : ℕ) : Type 0 where
+  pub some-left : left ≡ 0 → ⊥
+  pub begins : DumpBegins store at
+  pub is : some (dumpAt store at) ≡ held (dumpsOf store) n
+  pub other : isWhole (getD store at 0) ≡ false
 
-    abbrev patches : List Patch
-    patches = patchesIn (recordsFrom store (nextAt store at))
+module _ {store : List ℕ} {n left at : ℕ} (d : DeltaHere store n left at) where
+  abbrev base : ℕ
+  base = pairAt store (at + 3)
 
-    is-held : held (dumpsOf store) n ≡ some (delta (pairAt (recordAt store at .body) 0) base patches)
-    is-held = sym q ∙ ap (λ (x : Dump). some x) (delta-dump store at d w)
+  abbrev patches : List Patch
+  patches = patchesIn (recordsFrom store (nextAt store at))
 
-    pub delta-ordered : {places : List ℕ} {position : ℕ} → Looks store places n left position → Ordered 0 patches
-    delta-ordered l = held-ordered store (sound-good store (l .good) .formed) n is-held
+  is-held : held (dumpsOf store) n ≡ some (delta (pairAt (recordAt store at .body) 0) base patches)
+  is-held = sym (d .is) ∙ ap (λ (x : Dump). some x) (delta-dump store at (d .begins .1) (d .other))
 
-    below : {p : Payload} → restored unlimited (dumpsOf store) left n ≡ gives p
-        → OfBase unlimited (restored unlimited (dumpsOf store) (left - 1) base) patches p
-    below e =
-        let one : suc (left - 1) ≡ left = omega (arith, h) in
-        made-delta unlimited (dumpsOf store) (left - 1) n is-held (ap (λ (k : ℕ). restored unlimited (dumpsOf store) k n) one ∙ e)
+  pub delta-ordered : {places : List ℕ} {position : ℕ} → Looks store places n left position → Ordered 0 patches
+  delta-ordered l = held-ordered store (sound-good store (l .good) .formed) n is-held
 
-    pub located-edit : {position value : ℕ} → EditByte patches position value → Located store n left position value
-    located-edit {position} f =
+  below : {p : Payload} → restored unlimited (dumpsOf store) left n ≡ gives p
+      → OfBase unlimited (restored unlimited (dumpsOf store) (left - 1) base) patches p
+  below e =
+      let one : suc (left - 1) ≡ left = omega (arith, d .some-left) in
+      made-delta unlimited (dumpsOf store) (left - 1) n is-held (ap (λ (k : ℕ). restored unlimited (dumpsOf store) k n) one ∙ e)
+
+  pub located-edit : {position value : ℕ} → EditByte patches position value → Located store n left position value
+  located-edit {position} f =
+      record {
+        is = λ payload e.
+            let b = below e in
+            sym (f .byte (b .old .bytes) (b .good)) ∙ ap (λ (x : Payload). getD (x .bytes) position 0) (b .is);
+      }
+
+  module _ {position index : ℕ} (f : BaseByte patches position index) {m : ℕ} (s : m ≡ base) where
+    pub looks-below : {places : List ℕ} → Looks store places n left position → Looks store places m (left - 1) index
+    looks-below l =
+        let b = below (l .is) in
+        let long = ap (λ (x : Payload). length (x .bytes)) (b .is) in
+        record {
+          noted = l .noted;
+          good = l .good;
+          payload = b .old;
+          is = ap (restored unlimited (dumpsOf store) (left - 1)) s ∙ b .is-base;
+          inside = f .inside (b .old .bytes) (b .good) (omega (arith, long, l .inside));
+        }
+
+    pub located-below : {value : ℕ} → Located store m (left - 1) index value → Located store n left position value
+    located-below g =
         record {
           is = λ payload e.
               let b = below e in
-              sym (f .byte (b .old .bytes) (b .good)) ∙ ap (λ (x : Payload). getD (x .bytes) position 0) (b .is);
+              g .is (b .old) (ap (restored unlimited (dumpsOf store) (left - 1)) s ∙ b .is-base)
+              ∙ sym (f .byte (b .old .bytes) (b .good))
+              ∙ ap (λ (x : Payload). getD (x .bytes) position 0) (b .is);
         }
-
-    module _ {position index : ℕ} (f : BaseByte patches position index) {m : ℕ} (s : m ≡ base) where
-      pub looks-below : {places : List ℕ} → Looks store places n left position → Looks store places m (left - 1) index
-      looks-below l =
-          let b = below (l .is) in
-          let long = ap (λ (x : Payload). length (x .bytes)) (b .is) in
-          record {
-            noted = l .noted;
-            good = l .good;
-            payload = b .old;
-            is = ap (restored unlimited (dumpsOf store) (left - 1)) s ∙ b .is-base;
-            inside = f .inside (b .old .bytes) (b .good) (omega (arith, long, l .inside));
-          }
-
-      pub located-below : {value : ℕ} → Located store m (left - 1) index value → Located store n left position value
-      located-below g =
-          record {
-            is = λ payload e.
-                let b = below e in
-                g .is (b .old) (ap (restored unlimited (dumpsOf store) (left - 1)) s ∙ b .is-base)
-                ∙ sym (f .byte (b .old .bytes) (b .good))
-                ∙ ap (λ (x : Payload). getD (x .bytes) position 0) (b .is);
-          }

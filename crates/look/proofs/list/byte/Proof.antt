@@ -2,9 +2,8 @@
 use borrow.Author.Needs.{needs}
 use mathlib.Core.Path.{_≡_, sym, ap, _∙_}
 use lib.ListN.{length}
-use Rattle.refusal.specs.Answer.{Answer}
 use Rattle.edit.specs.Meaning.{placedMeaning}
-use Rattle.edit.specs.Placed.{Place, placed}
+use Rattle.edit.specs.Placed.{placed}
 use Rattle.edit.specs.declared.placing.Placed.{Placed}
 use Rattle.look.proofs.Bytes.{Shows, in-dump, in-bytes, not-placed}
 use Rattle.look.proofs.list.byte.Statement.{statement}

@@ -1,5 +1,4 @@
 -- `message::sysex8::byte_of`: the byte where it stands. Assumes nothing.
-use borrow.Author.Needs.{needs}
 use mathlib.Core.Path.{sym, _∙_}
 use Rattle.ump.specs.Packet.{sysex8}
 use Rattle.ump.proofs.Checks.{passes-valid}

@@ -38,13 +38,16 @@ static const uint8_t store[] = {
 
 #define COUNT(items) (sizeof(items) / sizeof *(items))
 
+/* The most runs that a payload with one edit has. */
+#define MOST_RUNS 3
+
 /* Prints the runs of the bank once its bytes from..to are replaced by the first `size` bytes of the name; answers how many there
  * are. */
 static size_t print_runs(size_t from, size_t to, size_t size) {
     static const char *const sources[] = {"before", "within", "behind"};
     size_t position = 0, runs = 0;
     printf("bytes %zu..%zu replaced by %zu:\n", from, to, size);
-    for (;; runs++) {
+    for (; runs < MOST_RUNS + 1; runs++) {
         latchbeacon_run run = latchbeacon_look_run(sizeof bank, from, to, size, position);
         if (run.refusal != LATCHBEACON_ACCEPTED) {
             printf("  at %zu: refusal %u at %zu\n", position, (unsigned)run.refusal, run.place);
@@ -58,6 +61,7 @@ static size_t print_runs(size_t from, size_t to, size_t size) {
         printf("\n");
         position += run.end - run.start;
     }
+    return runs;
 }
 
 /* A byte of the result of the two edits: of the bank's bytes, of the bank in packets, of dump 2. */
@@ -78,7 +82,7 @@ static bool print_bytes(const char *title, latchbeacon_number (*look)(size_t)) {
     size_t position = 0;
     latchbeacon_number byte = look(position);
     printf("%s:", title);
-    while (byte.refusal == LATCHBEACON_ACCEPTED) {
+    while (byte.refusal == LATCHBEACON_ACCEPTED && position <= sizeof bank + sizeof name) {
         printf(" %02zX", byte.value);
         byte = look(++position);
     }

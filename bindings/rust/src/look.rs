@@ -1,8 +1,8 @@
 //! Looking at bytes of an edited payload, without writing the result.
 //!
-//! A position counts in the payload that a splice of the edits would leave. What is answered is what stands there then: for one edit the
-//! longest run of bytes, lent out of the payload or out of the replacement ([`run`], [`runs`]), for a list of edits one byte ([`byte`]).
-//! The payload is bytes here, and may be longer than [`MOST_BYTES`](crate::MOST_BYTES); that of a message is looked at by
+//! A position counts in the payload that a splice of the edits would leave. What is answered is what stands there then: for one edit
+//! the longest run of bytes, lent out of the payload or out of the replacement ([`run`], [`runs`]), for a list of edits one byte
+//! ([`byte`]). The payload is bytes here, and may be longer than [`MOST_BYTES`](crate::MOST_BYTES); that of a message is looked at by
 //! [`Message::byte_after`](crate::Message::byte_after), and that of a dump in a store by [`Store::byte`](crate::Store::byte).
 
 use crate::edit::{self, Edit};
@@ -47,8 +47,8 @@ pub struct Run<'a> {
 
 /// The longest run of bytes that starts at `position` once a range of the payload is replaced.
 ///
-/// Before the edit it goes up to the start of the range, in the replacement to its end, behind the edit to the end of the payload. So an
-/// edit's end always ends a run, also if the edit is empty. No byte is copied.
+/// Before the edit it goes up to the start of the range, in the replacement to its end, behind the edit to the end of the payload. So
+/// an edit's end always ends a run, also if the edit is empty. No byte is copied.
 ///
 /// # Errors
 ///
@@ -140,6 +140,19 @@ pub struct Runs<'a> {
 /// assert_eq!(list(0..8, b"").unwrap_err().refusal, Refusal::Range); // past the payload
 /// assert_eq!(list(0..7, &[0; 53_249]).unwrap_err().refusal, Refusal::Range); // a replacement above 53,248 bytes
 /// # Ok::<(), latchbeacon::Error>(())
+/// ```
+///
+/// Its runs are lent too:
+///
+/// ```compile_fail,E0597
+/// use latchbeacon::look::runs;
+///
+/// let replacement = [9];
+/// let kept = {
+///     let payload = [1, 2, 3];
+///     runs(&payload, 1..2, &replacement).ok().and_then(|mut runs| runs.next())
+/// };
+/// assert!(kept.is_some());
 /// ```
 pub fn runs<'a>(payload: &'a [u8], range: impl RangeBounds<usize>, replacement: &'a [u8]) -> Result<Runs<'a>, Error> {
     let range = edit::numbers(range, payload.len());

@@ -105,10 +105,13 @@ fn a_payload_longer_than_a_message() {
     }
     assert_eq!(look::byte(&payload, &edits, &replacement, 3 * MOST_BYTES), Err(RANGE));
     assert_eq!(look::byte(&payload, &[], &[], 3 * MOST_BYTES - 1), Ok(1));
+    for past in [Edit::new(0..MOST_BYTES + 1, 0), Edit::new(MOST_BYTES + 1..MOST_BYTES + 1, 0)] {
+        assert_eq!(look::byte(&payload, &[past], &[], 0), Err(RANGE));
+    }
 }
 
-// Every byte of many messages with lists of edits, held to what the edits then leave: by the payload, by the message and its view. A list
-// of one edit is looked at by its runs too.
+// Every byte of many messages with lists of edits, held to what the edits then leave: by the payload, by the message and its view. A
+// list of one edit is looked at by its runs too.
 #[test]
 fn bytes_are_those_of_a_splice() {
     let mut numbers = Numbers::of_seed(80);
@@ -122,7 +125,8 @@ fn bytes_are_those_of_a_splice() {
         let view = View::check(&copy, length).unwrap();
         buffer.resize(sysex8::words_needed(payload.len() + bytes.len()).max(length), 0);
         let mut message = Message::check(&mut buffer, length).unwrap();
-        let looked: Vec<u8> = (0..).map_while(|position| look::byte(&payload, &edits, &bytes, position).ok()).collect();
+        let positions = 0..=payload.len() + bytes.len();
+        let looked: Vec<u8> = positions.map_while(|position| look::byte(&payload, &edits, &bytes, position).ok()).collect();
         for position in 0..looked.len() + 2 {
             let byte = look::byte(&payload, &edits, &bytes, position);
             assert_eq!([view.byte_after(&edits, &bytes, position), message.byte_after(&edits, &bytes, position)], [byte; 2]);
@@ -155,7 +159,8 @@ fn bytes_are_those_of_a_restored_dump() {
             let mut words = vec![0; Store::new(&store).describe(number).unwrap().words];
             let length = Store::new(&store).restore(number, &mut words).unwrap();
             let payload = Message::check(&mut words, length).unwrap().payload().to_vec();
-            let looked: Vec<u8> = (0..).map_while(|position| Store::new(&store).byte(number, position).ok()).collect();
+            let positions = 0..=payload.len();
+            let looked: Vec<u8> = positions.map_while(|position| Store::new(&store).byte(number, position).ok()).collect();
             assert_eq!(looked, payload);
             assert_eq!([payload.len(), usize::MAX].map(|position| Store::new(&store).byte(number, position)), [Err(RANGE); 2]);
         }

@@ -135,8 +135,8 @@ fn origins_are_refused() {
     assert_eq!(copy, words);
 }
 
-// A byte after a list of edits: the list, its order, the position; each is asked with the next at fault too, so that the order shows. It
-// is asked of the payload and of a message, which has no room for more.
+// A byte after a list of edits: the list, its order, the position; each is asked with the next at fault too, so that the order shows.
+// It is asked of the payload and of a message, which has no room for more.
 #[test]
 fn looks_are_refused() {
     let words = [0x5203_0741, 0x4200_0000, 0, 0];

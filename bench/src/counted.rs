@@ -124,7 +124,7 @@ fn store(name: &str, side: Side, size: usize) -> Option<Box<dyn FnMut()>> {
         "restore" => Box::new(move || _ = black_box(port::restore(black_box(&bytes), last, black_box(&mut words)))),
         "check" => Box::new(move || _ = black_box(port::check_store(black_box(&bytes)))),
         "describe" => Box::new(move || _ = black_box(port::describe(black_box(&bytes), last))),
-        "look" => Box::new(move || _ = black_box(port::look_store(black_box(&bytes), last, looks::middle(size)))),
+        "look" => Box::new(move || _ = black_box(port::look_store(black_box(&bytes), last, looks::kept(size)))),
         _ => return None,
     })
 }

@@ -64,15 +64,17 @@ static size_t print_runs(size_t from, size_t to, size_t size) {
     return runs;
 }
 
-/* A byte of the result of the two edits: of the bank's bytes, of the bank in packets, of dump 2. */
+/* A byte of the result of the two edits, by the bank's bytes. */
 static latchbeacon_number of_bytes(size_t position) {
     return latchbeacon_look_byte(bank, sizeof bank, edits, COUNT(edits), name, sizeof name, position);
 }
 
+/* The same by the bank in packets. */
 static latchbeacon_number of_packets(size_t position) {
     return latchbeacon_sysex8_look_byte(words, COUNT(words), COUNT(words), edits, COUNT(edits), name, sizeof name, position);
 }
 
+/* The same by dump 2 of the store. */
 static latchbeacon_number of_dump(size_t position) {
     return latchbeacon_store_look_byte(store, sizeof store, 2, position);
 }

@@ -27,11 +27,12 @@ const LIMITS: [u64; 13] = [
     u64::MAX,
 ];
 
-/// The bytes of a payload of a size, and of a replacement, none like another.
+/// The bytes of a payload of a size, none like another.
 fn payload(size: usize) -> Vec<u8> {
     (1..=size).map(|byte| byte as u8).collect()
 }
 
+/// The bytes of a replacement of a size, none like another or like one of the payload.
 fn replacement(size: usize) -> Vec<u8> {
     (1..=size).map(|byte| 0x80 | byte as u8).collect()
 }

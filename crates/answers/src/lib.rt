@@ -7,7 +7,7 @@ ghost use Rattle.packet.specs.Meaning.{kindMeaning, packetMeaning8, packetMeani
 ghost use Rattle.message.specs.Meaning.{checkMeaning8, checkMeaning7, copiedMeaning};
 ghost use Rattle.splice.specs.Meaning.{repackedMeaning, splicedMeaning};
 ghost use Rattle.edit.specs.Meaning.{grownMeaning, movedMeaning, originMeaning};
-ghost use Rattle.look.specs.Meaning.{foundMeaning};
+ghost use Rattle.look.specs.Meaning.{runMeaning};
 ghost use Rattle.reader.specs.Meaning.{openMeaning, readMeaning};
 ghost use Rattle.stream.specs.Meaning.{writtenMeaning};
 ghost use Rattle.store.specs.Meaning.{checkedMeaning};
@@ -542,7 +542,7 @@ fn stands(source: u8, part: Part) -> RunAnswer
 
 // The answer of finding a run.
 pub fn run(answer: Found) -> RunAnswer
-    ensures { λ r. ⌜ r ≡ runAnswer (foundMeaning answer) ⌝ }
+    ensures { λ r. ⌜ r ≡ runAnswer (runMeaning answer) ⌝ }
 {
     match answer {
         Found::Before(part) => stands(0, part),

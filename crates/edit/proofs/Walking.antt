@@ -21,7 +21,7 @@ use Rattle.ump.proofs.Asking.{asked-past, asked-lent}
 use Rattle.ump.proofs.Runs.{run-tail, run-past, run-gap, run-within, run-later}
 use Rattle.merge.proofs.Turning.{rest, rest-all, rest-end, rest-step}
 use Rattle.edit.specs.Listed.{listCheck}
-use Rattle.edit.specs.Placed.{inDump, inBytes, placeOf, placed, Stands}
+use Rattle.edit.specs.Placed.{inDump, inBytes, placeOf, placed, BeginsAt}
 use Rattle.edit.specs.declared.placing.Replacement.{Replacement}
 use Rattle.edit.specs.declared.placing.Standing.the-variants as standing
 use Rattle.edit.proofs.Lists.{rest-here, lengths-on, Ranges, ranges-all, ranges-on}
@@ -63,12 +63,12 @@ module _ {numbers : List ℕ} {n i end start left index : ℕ} (w : Walk numbers
     pub walk-lent : start + e .length ≤ lengths (editsOf numbers)
     walk-lent = omega (arith, w .lent, lengths-on numbers index h q)
 
-    pub walk-gap : left < e .from - end → Stands n (editsOf numbers) i (standing.Dump (end + left))
+    pub walk-gap : left < e .from - end → BeginsAt n (editsOf numbers) i (standing.Dump (end + left))
     walk-gap l = ap beginning (step ∙ run-gap n end index left e (rest numbers (index + 1)) l)
 
     module _ (g : e .from - end ≤ left) where
       pub walk-here : left - (e .from - end) < e .length
-          → Stands n (editsOf numbers) i
+          → BeginsAt n (editsOf numbers) i
           (standing.Edit (record { edit = index; byte = left - (e .from - end); at = start + (left - (e .from - end)) }))
       walk-here l = (
         ap beginning (step ∙ run-within n end index left e (rest numbers (index + 1)) g l),
@@ -90,10 +90,10 @@ module _ {numbers : List ℕ} {n i end start left index : ℕ} (w : Walk numbers
     last : runAt n (editsOf numbers) i ≡ runFrom n end index [] left
     last = w .same ∙ ap (λ (es : List Edit). runFrom n end index es left) (rest-end numbers index h)
 
-    pub walk-tail : left < n - end → Stands n (editsOf numbers) i (standing.Dump (end + left))
+    pub walk-tail : left < n - end → BeginsAt n (editsOf numbers) i (standing.Dump (end + left))
     walk-tail l = ap beginning (last ∙ run-tail n end index left l)
 
-    pub walk-past : n - end ≤ left → Stands n (editsOf numbers) i standing.Past
+    pub walk-past : n - end ≤ left → BeginsAt n (editsOf numbers) i standing.Past
     walk-past l = ap beginning (last ∙ run-past n end index left l)
 
 -- ---- where a byte stands, as a call
@@ -126,13 +126,13 @@ module _ (n bytes : ℕ) (numbers : List ℕ) (i : ℕ) (passed : listCheck n by
   unfolding placed
   placed-is = rw passed
 
-  pub placed-dump : {at : ℕ} → Stands n (editsOf numbers) i (standing.Dump at) → gives (inDump at) ≡ placed n bytes numbers i
+  pub placed-dump : {at : ℕ} → BeginsAt n (editsOf numbers) i (standing.Dump at) → gives (inDump at) ≡ placed n bytes numbers i
   placed-dump s = place-dump (editsOf numbers) (runAt n (editsOf numbers) i) s ∙ placed-is
 
-  pub placed-edit : {place : Replacement} → Stands n (editsOf numbers) i (standing.Edit place) → gives (inBytes (place .at)) ≡ placed n bytes numbers i
+  pub placed-edit : {place : Replacement} → BeginsAt n (editsOf numbers) i (standing.Edit place) → gives (inBytes (place .at)) ≡ placed n bytes numbers i
   placed-edit s = place-edit (editsOf numbers) (runAt n (editsOf numbers) i) (s .0) (s .1) ∙ placed-is
 
-  pub placed-past : Stands n (editsOf numbers) i standing.Past → refused 13 0 ≡ placed n bytes numbers i
+  pub placed-past : BeginsAt n (editsOf numbers) i standing.Past → refused 13 0 ≡ placed n bytes numbers i
   placed-past s = place-past (editsOf numbers) (runAt n (editsOf numbers) i) s ∙ placed-is
 
 -- ---- an octet of the message

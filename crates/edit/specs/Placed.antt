@@ -28,8 +28,8 @@ placed n bytes numbers i = listCheck n bytes numbers ▷ placeOf (editsOf number
 
 -- ---- what the walk finds. For the code's own promises; no public promise needs it
 
-abbrev pub Stands : ℕ → List Edit → ℕ → Standing → Type 0
-Stands n edits i (standing.Dump at) = beginning (runAt n edits i) ≡ carried (dumpByte at)
-Stands n edits i (standing.Edit place) =
+abbrev pub BeginsAt : ℕ → List Edit → ℕ → Standing → Type 0
+BeginsAt n edits i (standing.Dump at) = beginning (runAt n edits i) ≡ carried (dumpByte at)
+BeginsAt n edits i (standing.Edit place) =
     (beginning (runAt n edits i) ≡ carried (editByte (place .edit) (place .byte))) × (place .at ≡ lengths (take (place .edit) edits) + place .byte)
-Stands n edits i standing.Past = beginning (runAt n edits i) ≡ filler
+BeginsAt n edits i standing.Past = beginning (runAt n edits i) ≡ filler

@@ -4,7 +4,7 @@ ghost use mathlib.Core.Bool.{false};
 ghost use Prim.Native.Nat.{_^_, _<_};
 ghost use Rattle.ump.specs.Edits.{editsOf, someBad, someOverlap, lengths};
 ghost use Rattle.edit.specs.Meaning.{placedMeaning};
-ghost use Rattle.edit.specs.Placed.{placed, Stands};
+ghost use Rattle.edit.specs.Placed.{placed, BeginsAt};
 use refusal::Fault;
 use refusal::Refusal;
 
@@ -34,7 +34,7 @@ pub enum Placed {
 pub(crate) fn find_byte(numbers: &[usize], size: usize, position: usize) -> Standing
     requires { ⌜ (someBad size (editsOf (now numbers)) ≡ false) × (someOverlap 0 (editsOf (now numbers)) ≡ false)
         × (lengths (editsOf (now numbers)) < 2 ^ 64) ⌝ }
-    ensures { λ r. ⌜ Stands size (editsOf (now (numbers .entry))) position r ⌝ }
+    ensures { λ r. ⌜ BeginsAt size (editsOf (now (numbers .entry))) position r ⌝ }
 {
     let count = numbers.len() / crate::listed::NUMBERS;
     let mut end = 0;

@@ -20,7 +20,7 @@ use Rattle.edit.specs.Placed.{Place, inDump, inBytes, placeOf, placed}
 use Rattle.edit.proofs.Lists.{list-passes}
 use Rattle.edit.proofs.Apart.{apart}
 use Rattle.edit.proofs.AtOnce.{edits-for}
-use Rattle.look.specs.Pieces.{lengthOf, bytesOf}
+use Rattle.look.specs.Pieces.{runLength, runBytes}
 use Rattle.look.specs.Look.{byteOf, byteOfMessage}
 use Rattle.look.proofs.Nth.{nth-past, nth-there}
 use Rattle.look.proofs.Right.{Right, right}
@@ -72,14 +72,14 @@ module _ (dump numbers bytes : List ℕ) (passed : listCheck (length dump) (leng
       rw same at (right dump patches (rw same (ordered (length dump) edits bytes (apart (length dump) edits bytes (l .good) (l .apart)))) i)
 
   -- byte i of the result is the first of its run
-  first : (i : ℕ) {run : Run} → runAt (length dump) edits i ≡ run → 0 < lengthOf run
-      → (i < length new) × (getD new i 0 ≡ getD (bytesOf dump patches run) 0 0)
+  first : (i : ℕ) {run : Run} → runAt (length dump) edits i ≡ run → 0 < runLength run
+      → (i < length new) × (getD new i 0 ≡ getD (runBytes dump patches run) 0 0)
   first i {run} q h =
       let w : Right dump patches new i run = rw q at (right-listed i) in (
         omega (arith, w .fits),
         sym
             (ap (λ (l : List ℕ). getD l 0 0) (w .reads)
-            ∙ getD-take (lengthOf run) (drop i new) 0 0 h
+            ∙ getD-take (runLength run) (drop i new) 0 0 h
             ∙ getD-drop i new 0 0
             ∙ ap (λ (j : ℕ). getD new j 0) (add-zero i)),
       )

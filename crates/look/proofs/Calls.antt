@@ -11,7 +11,7 @@ use Rattle.refusal.specs.Tight.{Called}
 use Rattle.message.proofs.sysex8.byte.Kinds as read-kinds
 use Rattle.message.proofs.sysex8.byte.Reads as read
 use Rattle.edit.proofs.Worker.{struct}
-use Rattle.look.specs.Meaning.{foundMeaning}
+use Rattle.look.specs.Meaning.{runMeaning}
 use Rattle.look.specs.Looked.{Finder, Lender, Looker, MessageLooker, Reader}
 use Rattle.look.proofs.find.Kinds as find-kinds
 use Rattle.look.proofs.find.Reads as find
@@ -39,7 +39,7 @@ readGiven words len i κs a = (now (a .0) ≡ words) × (a .1 .0 ≡ len) × (a 
 -- `find` is called on this size, this edit and this position; it answers what means this
 abbrev pub Finds : Finder
 Finds n edit i answer =
-    Called 0 find-kinds.ps find-kinds.r find.Post (λ κs a. a ≡ (n, (struct edit, (i, tt)))) (λ κs said. foundMeaning said) (λ κs exit. Unit {0}) answer
+    Called 0 find-kinds.ps find-kinds.r find.Post (λ κs a. a ≡ (n, (struct edit, (i, tt)))) (λ κs said. runMeaning said) (λ κs exit. Unit {0}) answer
 
 -- `run` is called on these bytes, that stand there; it lends a part that stands there, with these bytes
 abbrev pub Lends : Lender

@@ -1,4 +1,4 @@
--- `find` and `lent` case by case: one edit of a dump. Assumes nothing.
+-- `find` and `partLent` case by case: one edit of a dump. Assumes nothing.
 use mathlib.Core.Path.{_≡_, sym, ap, _∙_}
 use mathlib.Core.Bool.{Bool, true, false, cond, _||_}
 use mathlib.Core.List.{List, [], _∷_}
@@ -19,7 +19,7 @@ use Rattle.ump.proofs.Runs.{run-tail, run-past, run-gap, run-within, run-later}
 use Rattle.ump.proofs.Origins.{replaced-single}
 use Rattle.edit.specs.Growth.{Sound}
 use Rattle.edit.proofs.Laws.{sound-has}
-use Rattle.look.specs.Look.{someRun, find, editBy, patchBy, shown, standsAt, lent}
+use Rattle.look.specs.Look.{someRun, find, editBy, patchBy, shown, standsAt, partLent}
 use Rattle.look.proofs.Right.{Right, right}
 
 -- ---- each return of the call is a case
@@ -108,7 +108,7 @@ part-is (suc start) (suc end) [] = take-nil (suc end - suc start)
 part-is (suc start) (suc end) (x ∷ l) = rw (suc-sub-suc end start) (part-is start end l)
 
 -- a part of a source that stands at this place: inside it, and what is lent
-pub record Part (at : ℕ × ℕ) (source : List ℕ) (start end : ℕ) (part : (ℕ × ℕ) × List ℕ) : Type 0 where
+pub record LentFrom (at : ℕ × ℕ) (source : List ℕ) (start end : ℕ) (part : (ℕ × ℕ) × List ℕ) : Type 0 where
   pub begins : start ≤ end
   pub ends : end ≤ length source
   pub is : ((at .0, start + at .1), take (end - start) (drop start source)) ≡ part
@@ -130,14 +130,14 @@ module _ (dump : List ℕ) (from to : ℕ) (replacement : List ℕ) (i : ℕ) wh
 
   -- where what is lent stands, and its bytes, by the answer of `find`
   lent-by : (dumpAt lentAt : ℕ × ℕ) {answer : Answer Run} → find (length dump) edit i ≡ answer
-      → (standsAt dumpAt lentAt answer, shown dump patches answer) ≡ lent dumpAt lentAt dump from to replacement i
-  unfolding lent
+      → (standsAt dumpAt lentAt answer, shown dump patches answer) ≡ partLent dumpAt lentAt dump from to replacement i
+  unfolding partLent
   lent-by dumpAt lentAt q = ap (λ (x : Answer Run). (standsAt dumpAt lentAt x, shown dump patches x)) (sym q)
 
   -- a run of the dump, and one of the replacement: a part of its source, which is what is lent
   module _ (dumpAt lentAt : ℕ × ℕ) where
     pub dump-part : {k start end : ℕ} → find (length dump) edit i ≡ gives (ofDump k start end)
-        → Part dumpAt dump start end (lent dumpAt lentAt dump from to replacement i)
+        → LentFrom dumpAt dump start end (partLent dumpAt lentAt dump from to replacement i)
     dump-part {k} {start} {end} q =
         let w = right-one q in
         record {
@@ -147,7 +147,7 @@ module _ (dump : List ℕ) (from to : ℕ) (replacement : List ℕ) (i : ℕ) wh
         }
 
     pub lent-part : {start end : ℕ} → find (length dump) edit i ≡ gives (ofEdit 0 start end)
-        → Part lentAt replacement start end (lent dumpAt lentAt dump from to replacement i)
+        → LentFrom lentAt replacement start end (partLent dumpAt lentAt dump from to replacement i)
     lent-part {start} {end} q =
         let w = right-one q in
         record {
@@ -156,5 +156,5 @@ module _ (dump : List ℕ) (from to : ℕ) (replacement : List ℕ) (i : ℕ) wh
           is = ap (λ (l : List ℕ). ((lentAt .0, start + lentAt .1), l)) (part-is start end replacement) ∙ lent-by dumpAt lentAt q;
         }
 
-    pub none-lent : {number place : ℕ} → find (length dump) edit i ≡ refused number place → (dumpAt, []) ≡ lent dumpAt lentAt dump from to replacement i
+    pub none-lent : {number place : ℕ} → find (length dump) edit i ≡ refused number place → (dumpAt, []) ≡ partLent dumpAt lentAt dump from to replacement i
     none-lent q = lent-by dumpAt lentAt q

@@ -8,7 +8,7 @@ use Rattle.ump.specs.Edits.{Edit}
 use Rattle.ump.specs.Runs.{Run, ofDump, ofEdit, past, runFrom, runAt}
 use Rattle.ump.proofs.First.{Side, under, over, side}
 use Rattle.ump.proofs.Runs.{run-tail, run-past, run-gap, run-within, run-later}
-use Rattle.look.specs.Pieces.{lengthOf, along, pieceOf, Longest}
+use Rattle.look.specs.Pieces.{runLength, along, pieceOf, Longest}
 
 -- no run is in a piece before those of the edits to come
 piece-least : (m n end k : ℕ) (es : List Edit) (i : ℕ) → m ≡ k + length es → 2 * k ≤ pieceOf m (runFrom n end k es i)
@@ -29,10 +29,10 @@ piece-least m n end k (x ∷ es) i q =
     go (over h e) (over l f) z = rw (run-later n end k i x es h l) (omega arith)
 
 -- what a run at byte i says, where the run is known
-longest-by : (m : ℕ) (at : ℕ → Run) (i : ℕ) (run : Run) → at i ≡ run → ((j : ℕ) → j < lengthOf run → at (i + j) ≡ along j run)
-    → (0 < lengthOf run → pieceOf m run < pieceOf m (at (i + lengthOf run))) → Longest m at i
+longest-by : (m : ℕ) (at : ℕ → Run) (i : ℕ) (run : Run) → at i ≡ run → ((j : ℕ) → j < runLength run → at (i + j) ≡ along j run)
+    → (0 < runLength run → pieceOf m run < pieceOf m (at (i + runLength run))) → Longest m at i
 longest-by m at i run e s l =
-    subst (λ (r : Run). ((j : ℕ) → j < lengthOf r → at (i + j) ≡ along j r) → (0 < lengthOf r → pieceOf m r < pieceOf m (at (i + lengthOf r))) → Longest m at i)
+    subst (λ (r : Run). ((j : ℕ) → j < runLength r → at (i + j) ≡ along j r) → (0 < runLength r → pieceOf m r < pieceOf m (at (i + runLength r))) → Longest m at i)
     e (λ s l. record { same = s; ends = l }) s l
 
 longest-from : (m n end k : ℕ) (es : List Edit) (i : ℕ) → m ≡ k + length es → Longest m (runFrom n end k es) i
@@ -87,7 +87,7 @@ longest-from m n end k (x ∷ es) i q =
         let run = runFrom n (x .to) (suc k) es b in
         longest-by m at i run (behind i b (omega arith) refl)
         (λ j r. behind (i + j) (b + j) (omega arith) (omega arith) ∙ z .same j r)
-        (λ r. rw (behind (i + lengthOf run) (b + lengthOf run) (omega arith) (omega arith)) (z .ends r))
+        (λ r. rw (behind (i + runLength run) (b + runLength run) (omega arith) (omega arith)) (z .ends r))
 
 -- the run at byte i of a dump of n bytes with edits
 pub longest : (n : ℕ) (edits : List Edit) (i : ℕ) → Longest (length edits) (runAt n edits) i

@@ -33,8 +33,8 @@ use Rattle.edit.specs.Growth.{Sound}
 use Rattle.edit.specs.Listed.{listCheck}
 use Rattle.edit.proofs.Laws.{sound-has}
 use Rattle.edit.proofs.AtOnce.{all-fewest}
-use Rattle.look.specs.Pieces.{lengthOf, bytesOf}
-use Rattle.look.specs.Look.{someRun, find, editBy, patchBy, shown, standsAt, lent, byteOf, byteOfMessage}
+use Rattle.look.specs.Pieces.{runLength, runBytes}
+use Rattle.look.specs.Look.{someRun, find, editBy, patchBy, shown, standsAt, partLent, byteOf, byteOfMessage}
 use Rattle.look.specs.Looked.{Finder, Lender, Looker, MessageLooker, Reader, RunOf, InTurn, LentPart, FoundRuns, LentRuns, LookedAt, PromisedLooks, PromisedLender}
 use Rattle.look.specs.Looked as looked
 use Rattle.look.proofs.Nth.{nth-past, nth-there, nth-given, read-held}
@@ -44,12 +44,12 @@ use Rattle.look.proofs.Finding.{Known, known}
 
 -- ---- runs
 
-some-given : (run : Run) → 0 < lengthOf run → someRun run ≡ gives run
+some-given : (run : Run) → 0 < runLength run → someRun run ≡ gives run
 some-given (ofDump k start end) h = refl
 some-given (ofEdit k start end) h = refl
 some-given past h = absurd (omega arith)
 
-shown-run : (dump : List ℕ) (patches : List Patch) (run : Run) → shown dump patches (someRun run) ≡ bytesOf dump patches run
+shown-run : (dump : List ℕ) (patches : List Patch) (run : Run) → shown dump patches (someRun run) ≡ runBytes dump patches run
 shown-run dump patches (ofDump k start end) = refl
 shown-run dump patches (ofEdit k start end) = refl
 shown-run dump patches past = refl
@@ -89,22 +89,22 @@ module _ (dump : List ℕ) (from to : ℕ) (replacement : List ℕ) where
     answered i h = taken i ∙ some-given (runHere i) (right-here i .some h)
 
     -- byte i is the first of its run, and there is one where there is a run
-    first-of : (i : ℕ) → nthByte made i ≡ mapAnswer (λ run. getD (bytesOf dump patches run) 0 0) (someRun (runHere i))
+    first-of : (i : ℕ) → nthByte made i ≡ mapAnswer (λ run. getD (runBytes dump patches run) 0 0) (someRun (runHere i))
     first-of i = go (side i (length made))
       where
-        go : Side i (length made) → nthByte made i ≡ mapAnswer (λ run. getD (bytesOf dump patches run) 0 0) (someRun (runHere i))
+        go : Side i (length made) → nthByte made i ≡ mapAnswer (λ run. getD (runBytes dump patches run) 0 0) (someRun (runHere i))
         go (under h e) =
             let w = right-here i in
-            let v : getD (bytesOf dump patches (runHere i)) 0 0 ≡ getD made i 0 =
+            let v : getD (runBytes dump patches (runHere i)) 0 0 ≡ getD made i 0 =
             ap (λ (l : List ℕ). getD l 0 0) (w .reads)
-            ∙ getD-take (lengthOf (runHere i)) (drop i made) 0 0 (w .some h)
+            ∙ getD-take (runLength (runHere i)) (drop i made) 0 0 (w .some h)
             ∙ getD-drop i made 0 0
             ∙ ap (λ (k : ℕ). getD made k 0) (add-zero i)
             in
-            sym (nth-there made i h) ∙ ap gives (sym v) ∙ sym (ap (mapAnswer (λ run. getD (bytesOf dump patches run) 0 0)) (some-given (runHere i) (w .some h)))
+            sym (nth-there made i h) ∙ ap gives (sym v) ∙ sym (ap (mapAnswer (λ run. getD (runBytes dump patches run) 0 0)) (some-given (runHere i) (w .some h)))
         go (over h e) =
-            let z : refused 13 0 ≡ mapAnswer (λ run. getD (bytesOf dump patches run) 0 0) (someRun (runHere i)) =
-            ap (λ (r : Run). mapAnswer (λ run. getD (bytesOf dump patches run) 0 0) (someRun r)) (sym (right-here i .none h))
+            let z : refused 13 0 ≡ mapAnswer (λ run. getD (runBytes dump patches run) 0 0) (someRun (runHere i)) =
+            ap (λ (r : Run). mapAnswer (λ run. getD (runBytes dump patches run) 0 0) (someRun r)) (sym (right-here i .none h))
             in
             sym (nth-past made i h) ∙ z
 
@@ -146,33 +146,33 @@ module _ (dump : List ℕ) (from to : ℕ) (replacement : List ℕ) where
       }
 
   -- a byte of a run is a byte of the result
-  byte-of-run : (i : ℕ) {run : Run} → find (length dump) edit i ≡ gives run → (j : ℕ) → j < lengthOf run
-      → nthByte made (i + j) ≡ gives (getD (bytesOf dump patches run) j 0)
+  byte-of-run : (i : ℕ) {run : Run} → find (length dump) edit i ≡ gives run → (j : ℕ) → j < runLength run
+      → nthByte made (i + j) ≡ gives (getD (runBytes dump patches run) j 0)
   byte-of-run i {run} q j h =
       let r = run-of i q in
       sym (nth-there made (i + j) (omega (arith, r .fits)))
       ∙ ap gives
       (sym
-      (ap (λ (l : List ℕ). getD l j 0) (r .reads) ∙ getD-take (lengthOf run) (drop i made) j 0 h ∙ getD-drop i made j 0))
+      (ap (λ (l : List ℕ). getD l j 0) (r .reads) ∙ getD-take (runLength run) (drop i made) j 0 h ∙ getD-drop i made j 0))
 
   -- parts lent in turn
   module _ {Lends : Lender} (promised : PromisedLender Lends) where
     part-shown : {i : ℕ} {part : List ℕ} → LentPart Lends dump from to replacement i part → part ≡ shown dump patches (find (length dump) edit i)
-    unfolding lent
+    unfolding partLent
     part-shown l = ap (λ (o : (ℕ × ℕ) × List ℕ). o .1) (promised .lends (l .call))
 
     module _ (sound : Sound edit) (inside : to ≤ length dump) where
-      part-is : {i : ℕ} {part : List ℕ} → LentPart Lends dump from to replacement i part → part ≡ take (lengthOf (runHere i)) (drop i made)
+      part-is : {i : ℕ} {part : List ℕ} → LentPart Lends dump from to replacement i part → part ≡ take (runLength (runHere i)) (drop i made)
       part-is {i} l =
           part-shown l
           ∙ ap (shown dump patches) (taken sound inside i)
           ∙ shown-run dump patches (runHere i)
           ∙ right-here sound inside i .reads
 
-      part-size : {i : ℕ} {part : List ℕ} → LentPart Lends dump from to replacement i part → length part ≡ lengthOf (runHere i)
+      part-size : {i : ℕ} {part : List ℕ} → LentPart Lends dump from to replacement i part → length part ≡ runLength (runHere i)
       part-size {i} l =
           ap length (part-is l)
-          ∙ omega (arith, length-take (lengthOf (runHere i)) (drop i made), length-drop i made, right-here sound inside i .fits)
+          ∙ omega (arith, length-take (runLength (runHere i)) (drop i made), length-drop i made, right-here sound inside i .fits)
 
       in-turn : {i : ℕ} {all : List ℕ} → InTurn (LentPart Lends dump from to replacement) i all → all ≡ drop i made
       in-turn {i} (looked.over l) = go (side i (length made))
@@ -181,7 +181,7 @@ module _ (dump : List ℕ) (from to : ℕ) (replacement : List ℕ) where
           go (under h e) = absurd (omega (arith, part-size l, right-here sound inside i .some h))
           go (over h e) = sym (drop-of-length-le made h)
       in-turn {i} (looked.more {part = part} {rest} l some later) =
-          rw (part-is l, in-turn later, part-size l, ← (drop-drop (lengthOf (runHere i)) i made)) (take-append-drop (lengthOf (runHere i)) (drop i made))
+          rw (part-is l, in-turn later, part-size l, ← (drop-drop (runLength (runHere i)) i made)) (take-append-drop (runLength (runHere i)) (drop i made))
 
 -- ---- a list of one edit
 
@@ -203,13 +203,13 @@ module _ (dump : List ℕ) (from to : ℕ) (replacement : List ℕ) (i : ℕ) wh
       (fine-alone out (nthByte (spliced dump from to replacement) i))
 
   one-edit : byteOf dump (from ∷ to ∷ length replacement ∷ []) replacement i
-      ≡ mapAnswer (λ run. getD (bytesOf dump (patchBy from to replacement ∷ []) run) 0 0) (find (length dump) (editBy from to replacement) i)
+      ≡ mapAnswer (λ run. getD (runBytes dump (patchBy from to replacement ∷ []) run) 0 0) (find (length dump) (editBy from to replacement) i)
   unfolding find
   one-edit = one-listed ∙ go out refl
     where
       go : (b : Bool) → out ≡ b
           → guard b 13 0 ▷ nthByte (spliced dump from to replacement) i
-          ≡ mapAnswer (λ run. getD (bytesOf dump (patchBy from to replacement ∷ []) run) 0 0)
+          ≡ mapAnswer (λ run. getD (runBytes dump (patchBy from to replacement ∷ []) run) 0 0)
           (guard b 13 0 ▷ someRun (runAt (length dump) (editBy from to replacement ∷ []) i))
       go true o = refl
       go false o =
@@ -328,7 +328,7 @@ module _ {shape : Shape} {family : Family} (family-promised : PromisedFamily sha
         → Lends dump-at replacement-at dump from to replacement i at part
         → {answer : Answer Run} → find (length dump) (editBy from to replacement) i ≡ answer
         → (at ≡ standsAt dump-at replacement-at answer) × (part ≡ shown dump (patchBy from to replacement ∷ []) answer)
-    unfolding lent
+    unfolding partLent
     lent-by {dump-at} {replacement-at} {dump} {replacement} {from} {to} l q = (
       ap (λ (o : (ℕ × ℕ) × List ℕ). o .0) (lender-promised .lends l) ∙ ap (standsAt dump-at replacement-at) q,
       ap (λ (o : (ℕ × ℕ) × List ℕ). o .1) (lender-promised .lends l) ∙ ap (shown dump (patchBy from to replacement ∷ [])) q,
@@ -345,7 +345,7 @@ module _ {shape : Shape} {family : Family} (family-promised : PromisedFamily sha
               let q = sym (promised .finds c) in
               let r = run-of dump from to replacement i q in
               let made : List ℕ = spliced dump from to replacement in
-              rw (lent-by l q .1 ∙ r .reads) (omega (arith, length-take (lengthOf run) (drop i made), length-drop i made, r .some, r .fits));
+              rw (lent-by l q .1 ∙ r .reads) (omega (arith, length-take (runLength run) (drop i made), length-drop i made, r .some, r .fits));
           none = λ l c. lent-by l (sym (promised .finds c)) .1;
           whole = λ {dump = dump} {replacement} {from} {to} s h t. in-turn dump from to replacement lender-promised s h t;
         }

@@ -78,8 +78,8 @@ valued (refused number place) = ((0, 0), [])
 
 lent-is : (dump : List ℕ) (from to : ℕ) (replacement : List ℕ) (i : ℕ)
     → let answer = find (length dump) (editBy from to replacement) i in
-    (standsAt (0, 0) (0, 0) answer, shown dump (patchBy from to replacement ∷ []) answer) ≡ definition.lent (0, 0) (0, 0) dump from to replacement i
-unfolding definition.lent
+    (standsAt (0, 0) (0, 0) answer, shown dump (patchBy from to replacement ∷ []) answer) ≡ definition.partLent (0, 0) (0, 0) dump from to replacement i
+unfolding definition.partLent
 lent-is dump from to replacement i = refl
 
 lends-promised : PromisedLender Lends

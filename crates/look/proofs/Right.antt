@@ -14,7 +14,7 @@ use Rattle.ump.specs.Runs.{Run, ofDump, ofEdit, past, runFrom, runAt}
 use Rattle.ump.proofs.First.{Side, under, over, side}
 use Rattle.ump.proofs.Replay.{replay, replaced-is}
 use Rattle.splice.proofs.Lists.{Ordered}
-use Rattle.look.specs.Pieces.{lengthOf, bytesOf}
+use Rattle.look.specs.Pieces.{runLength, runBytes}
 
 ordered-inside : (n end : ℕ) (edits : List Edit) → Ordered n end edits → end ≤ n
 ordered-inside n end [] o = o
@@ -28,24 +28,24 @@ Inside dump patches past = Unit {0}
 
 -- a run is the right one for byte i of a result
 pub record Right (dump : List ℕ) (patches : List Patch) (result : List ℕ) (i : ℕ) (run : Run) : Type 0 where
-  pub reads : bytesOf dump patches run ≡ take (lengthOf run) (drop i result)
+  pub reads : runBytes dump patches run ≡ take (runLength run) (drop i result)
   pub inside : Inside dump patches run
-  pub fits : lengthOf run ≤ length result - i
-  pub some : i < length result → 0 < lengthOf run
+  pub fits : runLength run ≤ length result - i
+  pub some : i < length result → 0 < runLength run
   pub none : length result ≤ i → run ≡ past
 
 module _ (dump : List ℕ) (patches : List Patch) where
   -- a run that is the rest of the first part of a result
-  right-front : (xs ys : List ℕ) (i : ℕ) (run : Run) → i < length xs → bytesOf dump patches run ≡ drop i xs → Inside dump patches run
-      → lengthOf run ≡ length xs - i → Right dump patches (xs ++ ys) i run
+  right-front : (xs ys : List ℕ) (i : ℕ) (run : Run) → i < length xs → runBytes dump patches run ≡ drop i xs → Inside dump patches run
+      → runLength run ≡ length xs - i → Right dump patches (xs ++ ys) i run
   right-front xs ys i run h b s l =
       let t = length-append xs ys in
       record {
         reads =
             b
             ∙ sym
-            (ap (take (lengthOf run)) (drop-append-le i xs ys (omega arith))
-            ∙ take-at (drop i xs) ys (lengthOf run) (length-drop i xs ∙ sym l));
+            (ap (take (runLength run)) (drop-append-le i xs ys (omega arith))
+            ∙ take-at (drop i xs) ys (runLength run) (length-drop i xs ∙ sym l));
         inside = s;
         fits = omega arith;
         some = λ k. omega arith;
@@ -60,7 +60,7 @@ module _ (dump : List ℕ) (patches : List Patch) where
       record {
         reads =
             r .reads
-            ∙ ap (take (lengthOf run)) (sym (ap (λ (k : ℕ). drop k (xs ++ ys)) e ∙ drop-append-add xs ys (i - length xs)));
+            ∙ ap (take (runLength run)) (sym (ap (λ (k : ℕ). drop k (xs ++ ys)) e ∙ drop-append-add xs ys (i - length xs)));
         inside = r .inside;
         fits = omega (arith, r .fits);
         some = λ k. r .some (omega arith);
@@ -150,11 +150,11 @@ module _ (dump : List ℕ) (patches : List Patch) where
 
     -- its first byte is byte i
     pub first-byte : (i : ℕ) → i < length (replaced dump patches)
-        → getD (bytesOf dump patches (runAt (length dump) (editsFor patches) i)) 0 0 ≡ getD (replaced dump patches) i 0
+        → getD (runBytes dump patches (runAt (length dump) (editsFor patches) i)) 0 0 ≡ getD (replaced dump patches) i 0
     first-byte i h =
         let w = right i in
         let result = replaced dump patches in
-        let l = lengthOf (runAt (length dump) (editsFor patches) i) in
+        let l = runLength (runAt (length dump) (editsFor patches) i) in
         ap (λ (x : List ℕ). getD x 0 0) (w .reads)
         ∙ getD-take l (drop i result) 0 0 (w .some h)
         ∙ getD-drop i result 0 0

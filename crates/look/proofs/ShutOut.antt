@@ -107,17 +107,17 @@ offset o = o .0 .1
 
 -- nothing comes back
 run-nothing : RunShut 0 (λ κs x. now x ≡ [])
-unfolding definition.lent definition.find runFrom
+unfolding definition.partLent definition.find runFrom
 run-nothing κs a x s w p = differ size tt (rw (w .0 .0, w .0 .1, w .0 .2, w .0 .3, w .0 .4, w .0 .5, w .0 .6, w .1) at p)
 
 -- the right bytes, but not where they are lent: a copy of them
 run-copied : RunShut 1 (λ κs x. ptr x ≡ (3, 0))
-unfolding definition.lent definition.find runFrom
+unfolding definition.partLent definition.find runFrom
 run-copied κs a x s w p = differ block tt (rw (w .0 .0, w .0 .1, w .0 .2, w .0 .3, w .0 .4, w .0 .5, w .0 .6, w .1) at p)
 
 -- the run behind the edit, lent from where the range begins
 run-offset : RunShut 4 (λ κs x. ptr x ≡ (1, 1))
-unfolding definition.lent definition.find runFrom
+unfolding definition.partLent definition.find runFrom
 run-offset κs a x s w p = differ offset tt (rw (w .0 .0, w .0 .1, w .0 .2, w .0 .3, w .0 .4, w .0 .5, w .0 .6, w .1) at p)
 
 -- ---- one byte of 0..1 by B0 B1, nothing at 2, 2..4 by B2: B0 B1 A1 B2 A4

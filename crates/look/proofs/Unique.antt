@@ -13,7 +13,7 @@ use Rattle.refusal.proofs.Tight.{once}
 use Rattle.ump.specs.Runs.{Run, ofDump, ofEdit, past}
 use Rattle.ump.specs.Edits.{Edit}
 use Rattle.look.specs.Look as definition
-use Rattle.look.specs.Meaning.{foundMeaning}
+use Rattle.look.specs.Meaning.{runMeaning}
 use Rattle.look.specs.declared.Part.{Part}
 use Rattle.look.specs.declared.Found.{Found}
 use Rattle.look.specs.declared.Found.the-variants as found
@@ -39,18 +39,18 @@ foundBack (gives (ofEdit k start end)) = found.Within (part start end)
 foundBack (gives past) = found.Before (part 0 0)
 foundBack (refused number place) = found.Refused (faultBack number place)
 
-found-back : (x : Found) → foundBack (foundMeaning x) ≡ x
+found-back : (x : Found) → foundBack (runMeaning x) ≡ x
 found-back (found.Before part) = refl
 found-back (found.Within part) = refl
 found-back (found.Behind part) = refl
 found-back (found.Refused fault) = ap found.Refused (fault-back fault)
 
-pub found-once : (x y : Found) → foundMeaning x ≡ foundMeaning y → x ≡ y
-found-once = once foundMeaning foundBack found-back
+pub found-once : (x y : Found) → runMeaning x ≡ runMeaning y → x ≡ y
+found-once = once runMeaning foundBack found-back
 
 -- and each answer of the definition is the meaning of one
-pub found-meant : (n : ℕ) (e : Edit) (i : ℕ) → foundMeaning (foundBack (definition.find n e i)) ≡ definition.find n e i
-found-meant = find-cases (λ answer. foundMeaning (foundBack answer) ≡ answer) refl (λ start end. refl) (λ start end. refl) (λ start end. refl)
+pub found-meant : (n : ℕ) (e : Edit) (i : ℕ) → runMeaning (foundBack (definition.find n e i)) ≡ definition.find n e i
+found-meant = find-cases (λ answer. runMeaning (foundBack answer) ≡ answer) refl (λ start end. refl) (λ start end. refl) (λ start end. refl)
 
 -- ---- the promises
 

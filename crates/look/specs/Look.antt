@@ -12,7 +12,7 @@ use Rattle.ump.specs.Setters.{nthByte}
 use Rattle.ump.specs.Edits.{Edit, Patch, badEdit, replaced, editsOf, patchesOf}
 use Rattle.ump.specs.Runs.{Run, ofDump, ofEdit, past, runAt}
 use Rattle.edit.specs.Listed.{listCheck}
-use Rattle.look.specs.Pieces.{bytesOf}
+use Rattle.look.specs.Pieces.{runBytes}
 
 -- ---- one edit
 
@@ -34,7 +34,7 @@ patchBy from to replacement = record { from = from; to = to; bytes = replacement
 
 -- the bytes of an answered run; a refusal shows none
 abbrev pub shown : List ℕ → List Patch → Answer Run → List ℕ
-shown dump patches (gives run) = bytesOf dump patches run
+shown dump patches (gives run) = runBytes dump patches run
 shown dump patches (refused number place) = []
 
 -- the bytes of that run
@@ -50,8 +50,8 @@ standsAt dump replacement (gives past) = dump
 standsAt dump replacement (refused number place) = dump
 
 -- the part lent: where it stands, and its bytes
-unfoldable pub lent : ℕ × ℕ → ℕ × ℕ → List ℕ → ℕ → ℕ → List ℕ → ℕ → (ℕ × ℕ) × List ℕ
-lent dumpAt replacementAt dump from to replacement i =
+unfoldable pub partLent : ℕ × ℕ → ℕ × ℕ → List ℕ → ℕ → ℕ → List ℕ → ℕ → (ℕ × ℕ) × List ℕ
+partLent dumpAt replacementAt dump from to replacement i =
     (standsAt dumpAt replacementAt (find (length dump) (editBy from to replacement) i), look dump from to replacement i)
 
 -- ---- a list of edits

@@ -14,8 +14,8 @@ use Rattle.ump.specs.Edits.{Edit, replaced, editsOf, patchesOf}
 use Rattle.ump.specs.Runs.{Run, ofDump, ofEdit, runAt}
 use Rattle.ump.specs.Demand.{Family}
 use Rattle.edit.specs.Growth.{Sound}
-use Rattle.look.specs.Pieces.{lengthOf, bytesOf, Longest}
-use Rattle.look.specs.Look.{find, editBy, patchBy, shown, standsAt, lent, byteOf, byteOfMessage}
+use Rattle.look.specs.Pieces.{runLength, runBytes, Longest}
+use Rattle.look.specs.Look.{find, editBy, patchBy, shown, standsAt, partLent, byteOf, byteOfMessage}
 
 -- ---- the calls, by the outcomes that they allow
 
@@ -49,9 +49,9 @@ pub record HasAnswer {A : Type 0} (Call : Answer A → Type 0) : Type 0 where
 -- what a run is that is answered for byte i of a dump with one edit
 pub record RunOf (dump : List ℕ) (from to : ℕ) (replacement : List ℕ) (i : ℕ) (run : Run) : Type 0 where
   -- its bytes are what a splice would read there, and there are some
-  pub reads : bytesOf dump (patchBy from to replacement ∷ []) run ≡ take (lengthOf run) (drop i (spliced dump from to replacement))
-  pub some : 0 < lengthOf run
-  pub fits : i + lengthOf run ≤ length (spliced dump from to replacement)
+  pub reads : runBytes dump (patchBy from to replacement ∷ []) run ≡ take (runLength run) (drop i (spliced dump from to replacement))
+  pub some : 0 < runLength run
+  pub fits : i + runLength run ≤ length (spliced dump from to replacement)
   -- before the edit up to its start, in it the rest of the replacement, after it the rest of the dump
   pub before : i < from → run ≡ ofDump 0 i from
   pub within : from ≤ i → i < from + length replacement → run ≡ ofEdit 0 (i - from) (length replacement)
@@ -90,8 +90,8 @@ pub record FoundRuns (shape : Shape) (family : Family) (Finds : Finder) (Reads :
   pub as-spliced : {words left : List ℕ} {len : ℕ} {edit : Edit} {bytes : List ℕ} {change : Spliced}
       → family .calls .Splices words len edit bytes (gives change) left → Below (shape .limit) bytes
       → {i : ℕ} {run : Run} → Finds (length (payloadOf shape words len)) (editBy (edit .from) (edit .to) bytes) i (gives run)
-      → (j : ℕ) → j < lengthOf run → {answer : Answer ℕ} → Reads left (change .length) (i + j) answer
-      → answer ≡ gives (getD (bytesOf (payloadOf shape words len) (patchBy (edit .from) (edit .to) bytes ∷ []) run) j 0)
+      → (j : ℕ) → j < runLength run → {answer : Answer ℕ} → Reads left (change .length) (i + j) answer
+      → answer ≡ gives (getD (runBytes (payloadOf shape words len) (patchBy (edit .from) (edit .to) bytes ∷ []) run) j 0)
 
 pub record LentRuns (Finds : Finder) (Lends : Lender) : Type 0 where
   -- Each call lends a part, it may be an empty one.
@@ -101,7 +101,7 @@ pub record LentRuns (Finds : Finder) (Lends : Lender) : Type 0 where
   pub lent-there : {dump-at replacement-at : ℕ × ℕ} {dump replacement : List ℕ} {from to i : ℕ} {at : ℕ × ℕ} {part : List ℕ}
       → Lends dump-at replacement-at dump from to replacement i at part
       → {run : Run} → Finds (length dump) (editBy from to replacement) i (gives run)
-      → (at ≡ standsAt dump-at replacement-at (gives run)) × (part ≡ take (lengthOf run) (drop i (spliced dump from to replacement)))
+      → (at ≡ standsAt dump-at replacement-at (gives run)) × (part ≡ take (runLength run) (drop i (spliced dump from to replacement)))
   -- it is never empty where a run is found, and empty where none is.
   pub some : {dump-at replacement-at : ℕ × ℕ} {dump replacement : List ℕ} {from to i : ℕ} {at : ℕ × ℕ} {part : List ℕ}
       → Lends dump-at replacement-at dump from to replacement i at part
@@ -139,7 +139,7 @@ pub record LookedAt (shape : Shape) (family : Family) (Finds : Finder) (Looks : 
   -- Of one edit, the byte is the first of its run, and refused as that is.
   pub one-edit : (dump : List ℕ) (from to : ℕ) (replacement : List ℕ) (i : ℕ) {answer : Answer Run} {byte : Answer ℕ}
       → Finds (length dump) (editBy from to replacement) i answer → Looks dump (from ∷ to ∷ length replacement ∷ []) replacement i byte
-      → byte ≡ mapAnswer (λ run. getD (bytesOf dump (patchBy from to replacement ∷ []) run) 0 0) answer
+      → byte ≡ mapAnswer (λ run. getD (runBytes dump (patchBy from to replacement ∷ []) run) 0 0) answer
 
 -- ---- each outcome of such calls is the definition's, and the definition's is one
 
@@ -157,6 +157,6 @@ pub record PromisedLooks (shape : Shape) (Finds : Finder) (Looks : Looker) (Look
 pub record PromisedLender (Lends : Lender) : Type 0 where
   pub lends : {dump-at replacement-at : ℕ × ℕ} {dump replacement : List ℕ} {from to i : ℕ} {at : ℕ × ℕ} {part : List ℕ}
       → Lends dump-at replacement-at dump from to replacement i at part
-      → _≡_ {A = (ℕ × ℕ) × List ℕ} (at, part) (lent dump-at replacement-at dump from to replacement i)
+      → _≡_ {A = (ℕ × ℕ) × List ℕ} (at, part) (partLent dump-at replacement-at dump from to replacement i)
   pub can-lend : (dump : List ℕ) (from to : ℕ) (replacement : List ℕ) (i : ℕ)
       → LentPart Lends dump from to replacement i (shown dump (patchBy from to replacement ∷ []) (find (length dump) (editBy from to replacement) i))

@@ -6,8 +6,8 @@ use Rattle.ump.specs.Runs.{Run, ofDump, ofEdit}
 use Rattle.look.specs.declared.Found.{Found}
 use Rattle.look.specs.declared.Found.the-variants as found
 
-abbrev pub foundMeaning : Found → Answer Run
-foundMeaning (found.Before part) = gives (ofDump 0 (part .start) (part .end))
-foundMeaning (found.Within part) = gives (ofEdit 0 (part .start) (part .end))
-foundMeaning (found.Behind part) = gives (ofDump 1 (part .start) (part .end))
-foundMeaning (found.Refused fault) = faultOf fault
+abbrev pub runMeaning : Found → Answer Run
+runMeaning (found.Before part) = gives (ofDump 0 (part .start) (part .end))
+runMeaning (found.Within part) = gives (ofEdit 0 (part .start) (part .end))
+runMeaning (found.Behind part) = gives (ofDump 1 (part .start) (part .end))
+runMeaning (found.Refused fault) = faultOf fault

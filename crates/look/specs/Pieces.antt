@@ -7,16 +7,16 @@ use lib.Seq.{slice}
 use Rattle.ump.specs.Edits.{Patch, patchAt}
 use Rattle.ump.specs.Runs.{Run, ofDump, ofEdit, past}
 
-abbrev pub lengthOf : Run → ℕ
-lengthOf (ofDump k start end) = end - start
-lengthOf (ofEdit k start end) = end - start
-lengthOf past = 0
+abbrev pub runLength : Run → ℕ
+runLength (ofDump k start end) = end - start
+runLength (ofEdit k start end) = end - start
+runLength past = 0
 
 -- its bytes
-abbrev pub bytesOf : List ℕ → List Patch → Run → List ℕ
-bytesOf dump patches (ofDump k start end) = slice start end dump
-bytesOf dump patches (ofEdit k start end) = slice start end (patchAt patches k .bytes)
-bytesOf dump patches past = []
+abbrev pub runBytes : List ℕ → List Patch → Run → List ℕ
+runBytes dump patches (ofDump k start end) = slice start end dump
+runBytes dump patches (ofEdit k start end) = slice start end (patchAt patches k .bytes)
+runBytes dump patches past = []
 
 -- the same run without its first j bytes
 abbrev pub along : ℕ → Run → Run
@@ -32,5 +32,5 @@ pieceOf m past = 2 * m + 1
 
 -- of m edits, the run that `at` gives at byte i is the longest: its bytes are all of one piece, and the byte behind it is of a later one
 pub record Longest (m : ℕ) (at : ℕ → Run) (i : ℕ) : Type 0 where
-  pub same : (j : ℕ) → j < lengthOf (at i) → at (i + j) ≡ along j (at i)
-  pub ends : 0 < lengthOf (at i) → pieceOf m (at i) < pieceOf m (at (i + lengthOf (at i)))
+  pub same : (j : ℕ) → j < runLength (at i) → at (i + j) ≡ along j (at i)
+  pub ends : 0 < runLength (at i) → pieceOf m (at i) < pieceOf m (at (i + runLength (at i)))

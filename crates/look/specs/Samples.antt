@@ -12,7 +12,7 @@ use Rattle.ump.specs.Edits.{Edit, replaced, editsFrom}
 use Rattle.ump.specs.Runs.{ofDump, ofEdit, runFrom}
 use Rattle.ump.specs.Samples.{message5}
 use Rattle.edit.specs.Listed.{listCheck}
-use Rattle.look.specs.Look.{find, look, lent, byteOf, byteOfMessage}
+use Rattle.look.specs.Look.{find, look, partLent, byteOf, byteOfMessage}
 
 abbrev edit : ℕ → ℕ → ℕ → Edit
 edit from to length = record { from = from; to = to; length = length }
@@ -49,10 +49,10 @@ pub record OneEdit : Type 0 where
   pub too-far : find 60000 (edit 53249 53249 0) 0 ≡ refused 13 0
   -- the bytes, and where they stand, where the payload is block 1 from 7 on and the replacement block 2 from 0 on
   pub bytes : (look five 1 3 three 0 ≡ 0xA0 ∷ []) × (look five 1 3 three 1 ≡ three) × (look five 1 3 three 4 ≡ 0xA3 ∷ 0xA4 ∷ []) × (look five 1 3 three 6 ≡ [])
-  pub places : (lent (1, 7) (2, 0) five 1 3 three 2 ≡ ((2, 1), 0xB1 ∷ 0xB2 ∷ [])) × (lent (1, 7) (2, 0) five 1 3 three 4 ≡ ((1, 10), 0xA3 ∷ 0xA4 ∷ []))
+  pub places : (partLent (1, 7) (2, 0) five 1 3 three 2 ≡ ((2, 1), 0xB1 ∷ 0xB2 ∷ [])) × (partLent (1, 7) (2, 0) five 1 3 three 4 ≡ ((1, 10), 0xA3 ∷ 0xA4 ∷ []))
 
 pub one-edit : OneEdit
-unfolding find lent runFrom
+unfolding find partLent runFrom
 one-edit =
     record {
       before = refl;

@@ -4,8 +4,8 @@ ghost use mathlib.Core.Path.{_≡_};
 ghost use denote.Ref.{ptr};
 ghost use Rattle.refusal.specs.Answer.{refused};
 ghost use Rattle.edit.specs.Meaning.{editMeaning};
-ghost use Rattle.look.specs.Look.{find, lent};
-ghost use Rattle.look.specs.Meaning.{foundMeaning};
+ghost use Rattle.look.specs.Look.{find, partLent};
+ghost use Rattle.look.specs.Meaning.{runMeaning};
 use edit::Edit;
 use refusal::Fault;
 use refusal::Refusal;
@@ -31,7 +31,7 @@ pub enum Found {
 
 // A position or an edit out of range.
 fn out_of_range() -> Found
-    ensures { λ r. ⌜ foundMeaning r ≡ refused 13 0 ⌝ }
+    ensures { λ r. ⌜ runMeaning r ≡ refused 13 0 ⌝ }
 {
     Found::Refused(Fault {
         refusal: Refusal::Range,
@@ -42,7 +42,7 @@ fn out_of_range() -> Found
 // The longest run of bytes that starts at `position` of a dump of `size` bytes with one edit: its source, start and end. Range for the
 // edit, then for the position.
 pub fn find(size: usize, edit: Edit, position: usize) -> Found
-    ensures { λ r. ⌜ foundMeaning r ≡ find size (editMeaning edit) position ⌝ }
+    ensures { λ r. ⌜ runMeaning r ≡ find size (editMeaning edit) position ⌝ }
 {
     if edit::is_bad(edit) {
         return out_of_range();
@@ -82,7 +82,7 @@ pub fn run<'a>(
     position: usize,
 ) -> &'a [u8]
     ensures { λ r. ⌜ (ptr r, now r)
-        ≡ lent (ptr (payload .entry)) (ptr (replacement .entry)) (now (payload .entry)) from to (now (replacement .entry)) position ⌝ }
+        ≡ partLent (ptr (payload .entry)) (ptr (replacement .entry)) (now (payload .entry)) from to (now (replacement .entry)) position ⌝ }
 {
     let edit = Edit {
         from,

@@ -2,7 +2,7 @@
 use borrow.Author.Needs.{needs}
 use mathlib.Core.Path.{refl}
 use Rattle.answers.proofs.Laws.{of-case}
-use Rattle.look.specs.Meaning.{foundMeaning}
+use Rattle.look.specs.Meaning.{runMeaning}
 use Rattle.look.specs.declared.Found.{Found}
 use Rattle.answers.specs.declared.RunAnswer.{RunAnswer}
 use Rattle.answers.specs.Answers.{runAnswer}
@@ -10,7 +10,7 @@ use Rattle.answers.proofs.run.Statement.{statement}
 use Rattle.answers.proofs.run.Tie as tie
 
 abbrev struct : Found → RunAnswer
-struct a = runAnswer (foundMeaning a)
+struct a = runAnswer (runMeaning a)
 
 returns : tie.Need-returns
 returns c = of-case struct (c .before .before .answer .given .1) (c .stands .ensures)

@@ -3,15 +3,15 @@ use borrow.Author.Needs.{needs}
 use mathlib.Core.Path.{_≡_, sym, ap, subst}
 use Rattle.refusal.specs.Answer.{gives}
 use Rattle.ump.specs.Edits.{editsOf}
-use Rattle.edit.specs.Placed.{Stands}
+use Rattle.edit.specs.Placed.{BeginsAt}
 use Rattle.edit.specs.declared.placing.Standing.{Standing}
 use Rattle.edit.proofs.origins.byte_origin.Statement.{statement}
 use Rattle.edit.proofs.origins.byte_origin.Tie as tie
 
 -- what is found, by the case that it is
 stands : (c : tie.After-find-byte) {found : Standing} → c .find-byte .result ≡ found → let a = c .before .before .args in
-    Stands (a .size) (editsOf (a .numbers .now)) (a .position) found
-stands c e = let a = c .before .before .args in subst (Stands (a .size) (editsOf (a .numbers .now)) (a .position)) e (c .find-byte .ensures)
+    BeginsAt (a .size) (editsOf (a .numbers .now)) (a .position) found
+stands c e = let a = c .before .before .args in subst (BeginsAt (a .size) (editsOf (a .numbers .now)) (a .position)) e (c .find-byte .ensures)
 
 returns : tie.Need-returns
 returns c = let k = c .before in sym (ap gives (stands (k .before .before) (k .stands .given .1)))

@@ -6,7 +6,7 @@ use Rattle.refusal.specs.Answer.{pass}
 use Rattle.refusal.specs.Meaning.{faultOf}
 use Rattle.ump.specs.Edits.{editsOf}
 use Rattle.edit.specs.Listed.{listCheck}
-use Rattle.edit.specs.Placed.{Stands}
+use Rattle.edit.specs.Placed.{BeginsAt}
 use Rattle.edit.specs.declared.placing.Standing.{Standing}
 use Rattle.edit.proofs.Lists.{list-passes, cut-none, cut-some}
 use Rattle.edit.proofs.Walking.{placed-refused, placed-dump, placed-edit, placed-past}
@@ -24,10 +24,10 @@ find-byte-requires c κs =
 
 -- what is found, by the case that it is
 stands : (c : tie.After-find-byte) {found : Standing} → c .find-byte .result ≡ found → let a = c .before .before .before .before .args in
-    Stands (a .size) (editsOf (a .numbers .now)) (a .position) found
+    BeginsAt (a .size) (editsOf (a .numbers .now)) (a .position) found
 stands c e =
     let a = c .before .before .before .before .args in
-    subst (Stands (a .size) (editsOf (a .numbers .now)) (a .position)) e (c .find-byte .ensures)
+    subst (BeginsAt (a .size) (editsOf (a .numbers .now)) (a .position)) e (c .find-byte .ensures)
 
 returns : tie.Need-returns
 returns c = let t = c .before in placed-refused _ _ _ _ (c .why .ensures (cut-none _ _ _ (t .before .cut-found .ensures) (t .if1 .taken)))

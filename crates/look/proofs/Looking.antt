@@ -1,13 +1,13 @@
 -- Looking at an edited dump is what a full splice would read: of all calls that promise the definitions, of any shape. Assumes nothing.
-use mathlib.Core.Path.{_≡_, refl, sym, ap, _∙_}
+use mathlib.Core.Path.{_≡_, refl, sym, ap, ap₂, _∙_, subst}
 use mathlib.Core.Bool.{Bool, true, false, _||_}
-use mathlib.Core.List.{List, [], _∷_}
-use Prim.Native.Nat.{ℕ, _+_, _-_, _/_, _≤_, _<_}
+use mathlib.Core.List.{List, [], _∷_, _++_}
+use Prim.Native.Nat.{ℕ, zero, suc, _+_, _-_, _/_, _≤_, _<_}
 use native.Mathlib.Nat.{add-zero}
 use native.Mathlib.Omega.{arith}
 use lib.Dec.{ltb}
 use lib.ListN.{length, getD, take, drop, length-take, length-drop, take-append-drop, drop-of-length-le}
-use lib.Seq.{take-length, drop-drop, getD-take, getD-drop}
+use lib.Seq.{take-length, take-nil, drop-drop, getD-take, getD-drop}
 use borrow.Author.Tests.{le-ltb, ltb-false, eq-eqb}
 use Rattle.refusal.specs.Answer.{Answer, Verdict, gives, refused, pass, _▷_, guard, mapAnswer}
 use Rattle.refusal.proofs.Laws.{never-both, never-refused, guard-passed, pass-both, writes-given, writes-refused}
@@ -183,6 +183,33 @@ module _ (dump : List ℕ) (from to : ℕ) (replacement : List ℕ) where
       in-turn {i} (looked.more {part = part} {rest} l some later) =
           rw (part-is l, in-turn later, part-size l, ← (drop-drop (runLength (runHere i)) i made)) (take-append-drop (runLength (runHere i)) (drop i made))
 
+      none-lent : (i : ℕ) → length made ≤ i → InTurn (LentPart Lends dump from to replacement) i (drop i made)
+      none-lent i h =
+          let l = promised .can-lend dump from to replacement i in
+          let none : shown dump patches (find (length dump) edit i) ≡ [] =
+          part-is l ∙ ap (take (runLength (runHere i))) (drop-of-length-le made h) ∙ take-nil (runLength (runHere i))
+          in
+          rw (drop-of-length-le made h) (looked.over (subst (LentPart Lends dump from to replacement i) none l))
+
+      -- so many calls at most, from byte i on
+      goes : (fuel i : ℕ) → length made ≤ i + fuel → InTurn (LentPart Lends dump from to replacement) i (drop i made)
+      goes zero i h = none-lent i (omega arith)
+      goes (suc fuel) i h = go (side i (length made)) (λ k e. goes fuel k e)
+        where
+          go : Side i (length made) → ((k : ℕ) → length made ≤ k + fuel → InTurn (LentPart Lends dump from to replacement) k (drop k made))
+              → InTurn (LentPart Lends dump from to replacement) i (drop i made)
+          go (over k e) on = none-lent i k
+          go (under k e) on =
+              let part : List ℕ = shown dump patches (find (length dump) edit i) in
+              let l : LentPart Lends dump from to replacement i part = promised .can-lend dump from to replacement i in
+              let some : 0 < length part = omega (arith, part-size l, right-here sound inside i .some k) in
+              let all : part ++ drop (i + length part) made ≡ drop i made =
+              ap₂ (λ (x : List ℕ) (n : ℕ). x ++ drop (i + n) made) (part-is l) (part-size l)
+              ∙ ap (λ (x : List ℕ). take (runLength (runHere i)) (drop i made) ++ x) (sym (drop-drop (runLength (runHere i)) i made))
+              ∙ take-append-drop (runLength (runHere i)) (drop i made)
+              in
+              subst (InTurn (LentPart Lends dump from to replacement) i) all (looked.more l some (on (i + length part) (omega arith)))
+
 -- ---- a list of one edit
 
 fine-alone : (b : Bool) (later : Answer ℕ) → (guard ((b || false) || false) 13 0 ▷ pass) ▷ later ≡ guard b 13 0 ▷ later
@@ -347,5 +374,8 @@ module _ {shape : Shape} {family : Family} (family-promised : PromisedFamily sha
               let made : List ℕ = spliced dump from to replacement in
               rw (lent-by l q .1 ∙ r .reads) (omega (arith, length-take (runLength run) (drop i made), length-drop i made, r .some, r .fits));
           none = λ l c. lent-by l (sym (promised .finds c)) .1;
+          goes = λ dump from to replacement s h.
+              let made : List ℕ = spliced dump from to replacement in
+              goes dump from to replacement lender-promised s h (length made) 0 (omega arith);
           whole = λ {dump = dump} {replacement} {from} {to} s h t. in-turn dump from to replacement lender-promised s h t;
         }

@@ -109,7 +109,9 @@ pub record LentRuns (Finds : Finder) (Lends : Lender) : Type 0 where
   pub none : {dump-at replacement-at : ℕ × ℕ} {dump replacement : List ℕ} {from to i : ℕ} {at : ℕ × ℕ} {part : List ℕ}
       → Lends dump-at replacement-at dump from to replacement i at part
       → {number place : ℕ} → Finds (length dump) (editBy from to replacement) i (refused number place) → part ≡ []
-  -- Parts lent one after the other from 0, until none is, are the whole of what a splice makes.
+  -- Parts can be lent one after the other from 0, until none is; and whichever are, they are the whole of what a splice makes.
+  pub goes : (dump : List ℕ) (from to : ℕ) (replacement : List ℕ) → Sound (editBy from to replacement) → to ≤ length dump
+      → InTurn (LentPart Lends dump from to replacement) 0 (spliced dump from to replacement)
   pub whole : {dump replacement : List ℕ} {from to : ℕ} {all : List ℕ} → Sound (editBy from to replacement) → to ≤ length dump
       → InTurn (LentPart Lends dump from to replacement) 0 all → all ≡ spliced dump from to replacement
 

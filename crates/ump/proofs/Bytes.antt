@@ -21,7 +21,7 @@ narrow shape y =
     ∙ mod-mod-pow y (8 - shape .width) (shape .width)
 
 module _ (shape : Shape) (words : List ℕ) (p : ℕ) (there : shape .words * p + shape .words ≤ length words) where
-  length-packet : length (packet shape words p) ≡ shape .words
+  pub length-packet : length (packet shape words p) ≡ shape .words
   length-packet = simp (length-take, length-drop) (omega arith)
 
   pub length-payloadAt : length (payloadAt shape words p) ≡ sizeAt shape words p

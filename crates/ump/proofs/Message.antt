@@ -8,11 +8,11 @@ use lib.ListN.{length, length-append, length-map, length-take, length-drop}
 use Rattle.refusal.specs.Answer.{gives}
 use Rattle.ump.specs.Word.{Below}
 use Rattle.ump.specs.Packet.{Shape, groupAt, countAt, idAt, sizeAt, payloadAt, joined, payload}
-use Rattle.ump.specs.Packing.{packs, packetsFor, wordsFor, chunk, pack}
+use Rattle.ump.specs.Packing.{packsFilled, LaidOut, zerosAfter, packs, packetsFor, wordsFor, chunk, pack}
 use Rattle.ump.specs.Limits.{mostWords}
 use Rattle.ump.specs.Check.{payloadOf, summary, checked, Valid}
-use Rattle.ump.proofs.Sizes.{words-pos, size-small, packets-pos, packets-enough, packets-fewest, packets-least}
-use Rattle.ump.proofs.Packing.{length-packs, type-packs, group-packs, status-packs, count-packs, size-packs, id-packs, payload-packs, length-chunk, below-chunk, joined-chunk}
+use Rattle.ump.proofs.Sizes.{words-pos, size-small, packets-enough, packets-fewest, packets-least}
+use Rattle.ump.proofs.Packing.{length-packs, type-packs, group-packs, status-packs, count-packs, size-packs, id-packs, payload-packs, joined-chunk, chunk-laid-out}
 use Rattle.ump.proofs.Checks.{valid-passes}
 
 -- what the check answers of a valid message
@@ -21,62 +21,61 @@ pub checked-valid : (shape : Shape) (words : List ℕ) (len : ℕ) → Valid sha
 unfolding checked
 checked-valid shape words len v = rw (valid-passes shape words len v)
 
--- any packing is a valid message that carries its pieces
-module _ (shape : Shape) (group : ℕ) (id : List ℕ) (n : ℕ) (c : ℕ → List ℕ)
-    (hg : group < 16) (ht : length id ≡ shape .ids) (bt : Below 256 id) (hc : (p : ℕ) → length (c p) ≤ shape .room) (bc : (p : ℕ) → Below (shape .limit) (c p))
-    (pn : 0 < n) (rest : List ℕ) where
-  pub payloadOf-packs : payloadOf shape (packs shape group id n c ++ rest) (shape .words * n) ≡ joined c n
-  payloadOf-packs = rw (mul-div-right n (words-pos shape)) (payload-packs shape group id n c hg ht bt hc bc rest)
+-- any packing, with any filler, is a valid message that carries its pieces
+module _ (shape : Shape) (group : ℕ) (id : List ℕ) (n : ℕ) (c f : ℕ → List ℕ) (l : LaidOut shape group id n c f) (rest : List ℕ) where
+  abbrev m : List ℕ
+  m = packsFilled shape group id n c f ++ rest
 
-  pub group-of-packs : groupAt shape (packs shape group id n c ++ rest) 0 ≡ group
-  group-of-packs = group-packs shape group id n c hg ht bt hc bc rest 0 pn
+  pub payloadOf-packs : payloadOf shape m (shape .words * n) ≡ joined c n
+  payloadOf-packs = rw (mul-div-right n (words-pos shape)) (payload-packs shape group id n c f l rest)
 
-  pub id-of-packs : idAt shape (packs shape group id n c ++ rest) 0 ≡ id
-  id-of-packs = id-packs shape group id n c hg ht bt hc bc rest 0 pn
+  pub group-of-packs : groupAt shape m 0 ≡ group
+  group-of-packs = group-packs shape group id n c f l 0 (l .some-packet) rest
 
-  pub packs-valid : length (packs shape group id n c ++ rest) ≤ mostWords → Valid shape (packs shape group id n c ++ rest) (shape .words * n)
+  pub id-of-packs : idAt shape m 0 ≡ id
+  id-of-packs = id-packs shape group id n c f l 0 (l .some-packet) rest
+
+  pub packs-valid : length m ≤ mostWords → Valid shape m (shape .words * n)
   packs-valid h =
-      let k = count-packs shape group id n c hg ht bt hc bc rest in
       record {
         short-enough = h;
-        inside = omega (arith, length-append (packs shape group id n c) rest, length-packs shape group id n c ht hc);
+        inside = omega (arith, length-append (packsFilled shape group id n c f) rest, length-packs shape group id n c f (l .id-is-long) (l .filled));
         packets = n;
-        some-packet = pn;
+        some-packet = l .some-packet;
         whole = refl;
-        types = type-packs shape group id n c hg ht bt hc bc rest;
-        statuses = status-packs shape group id n c hg ht bt hc bc rest;
-        counts = λ p l. (omega (arith, k p l), omega (arith, k p l, hc p));
-        groups = λ p l. group-packs shape group id n c hg ht bt hc bc rest p l ∙ sym group-of-packs;
-        one-id = λ p l. id-packs shape group id n c hg ht bt hc bc rest p l ∙ sym id-of-packs;
+        types = λ p k. type-packs shape group id n c f l p k rest;
+        statuses = λ p k. status-packs shape group id n c f l p k rest;
+        counts = λ p k. let e = count-packs shape group id n c f l p k rest in (omega arith, omega (arith, l .filled p k));
+        groups = λ p k. group-packs shape group id n c f l p k rest ∙ sym group-of-packs;
+        one-id = λ p k. id-packs shape group id n c f l p k rest ∙ sym id-of-packs;
       }
 
-  pub checked-packs : length (packs shape group id n c ++ rest) ≤ mostWords
-      → checked shape (packs shape group id n c ++ rest) (shape .words * n)
-      ≡ gives (summary group id (length (joined c n)) (shape .words * n))
+  pub checked-packs : length m ≤ mostWords → checked shape m (shape .words * n) ≡ gives (summary group id (length (joined c n)) (shape .words * n))
   checked-packs h = checked-valid shape _ _ (packs-valid h) ∙ rw (group-of-packs, id-of-packs, payloadOf-packs)
 
 -- and so is the fewest-packet form
 module _ (shape : Shape) (group : ℕ) (id bytes : List ℕ) (hg : group < 16) (ht : length id ≡ shape .ids) (bt : Below 256 id) (bb : Below (shape .limit) bytes) (rest : List ℕ) where
-  abbrev n : ℕ
-  n = packetsFor shape (length bytes)
+  abbrev packets : ℕ
+  packets = packetsFor shape (length bytes)
+
+  laid-out : LaidOut shape group id packets (chunk shape bytes) (zerosAfter shape (chunk shape bytes))
+  laid-out = chunk-laid-out shape group id bytes hg ht bt bb
 
   pub payloadOf-pack : payloadOf shape (pack shape group id bytes ++ rest) (wordsFor shape (length bytes)) ≡ bytes
-  unfolding pack
-  payloadOf-pack =
-      payloadOf-packs shape group id n (chunk shape bytes) hg ht bt (length-chunk shape bytes) (below-chunk shape bytes bb) (packets-pos shape (length bytes)) rest
-      ∙ joined-chunk shape bytes
+  unfolding pack packs
+  payloadOf-pack = payloadOf-packs shape group id packets (chunk shape bytes) _ laid-out rest ∙ joined-chunk shape bytes
 
   pub group-of-pack : groupAt shape (pack shape group id bytes ++ rest) 0 ≡ group
-  unfolding pack
-  group-of-pack = group-of-packs shape group id n (chunk shape bytes) hg ht bt (length-chunk shape bytes) (below-chunk shape bytes bb) (packets-pos shape (length bytes)) rest
+  unfolding pack packs
+  group-of-pack = group-of-packs shape group id packets (chunk shape bytes) _ laid-out rest
 
   pub id-of-pack : idAt shape (pack shape group id bytes ++ rest) 0 ≡ id
-  unfolding pack
-  id-of-pack = id-of-packs shape group id n (chunk shape bytes) hg ht bt (length-chunk shape bytes) (below-chunk shape bytes bb) (packets-pos shape (length bytes)) rest
+  unfolding pack packs
+  id-of-pack = id-of-packs shape group id packets (chunk shape bytes) _ laid-out rest
 
   pub pack-valid : length (pack shape group id bytes ++ rest) ≤ mostWords → Valid shape (pack shape group id bytes ++ rest) (wordsFor shape (length bytes))
-  unfolding pack
-  pack-valid = packs-valid shape group id n (chunk shape bytes) hg ht bt (length-chunk shape bytes) (below-chunk shape bytes bb) (packets-pos shape (length bytes)) rest
+  unfolding pack packs
+  pack-valid = packs-valid shape group id packets (chunk shape bytes) _ laid-out rest
 
   pub checked-pack : length (pack shape group id bytes ++ rest) ≤ mostWords
       → checked shape (pack shape group id bytes ++ rest) (wordsFor shape (length bytes))
@@ -84,14 +83,14 @@ module _ (shape : Shape) (group : ℕ) (id bytes : List ℕ) (hg : group < 16) (
   checked-pack h = checked-valid shape _ _ (pack-valid h) ∙ rw (group-of-pack, id-of-pack, payloadOf-pack)
 
   -- every packet but the last is full, and the last carries what is left
-  size-of-pack : (p : ℕ) → p < n → sizeAt shape (pack shape group id bytes ++ rest) p ≡ min (shape .room) (length bytes - shape .room * p)
-  unfolding pack
-  size-of-pack p h = size-packs shape group id n (chunk shape bytes) hg ht bt (length-chunk shape bytes) (below-chunk shape bytes bb) rest p h ∙ simp (length-take, length-drop)
+  size-of-pack : (p : ℕ) → p < packets → sizeAt shape (pack shape group id bytes ++ rest) p ≡ min (shape .room) (length bytes - shape .room * p)
+  unfolding pack packs
+  size-of-pack p h = size-packs shape group id packets (chunk shape bytes) _ laid-out p h rest ∙ simp (length-take, length-drop)
 
-  pub full-of-pack : (p : ℕ) → suc p < n → sizeAt shape (pack shape group id bytes ++ rest) p ≡ shape .room
+  pub full-of-pack : (p : ℕ) → suc p < packets → sizeAt shape (pack shape group id bytes ++ rest) p ≡ shape .room
   full-of-pack p h = size-of-pack p (omega arith) ∙ omega (arith, packets-fewest shape (length bytes) p h, mul-suc (shape .room) p)
 
-  pub last-of-pack : (p : ℕ) → suc p ≡ n → sizeAt shape (pack shape group id bytes ++ rest) p ≡ length bytes - shape .room * p
+  pub last-of-pack : (p : ℕ) → suc p ≡ packets → sizeAt shape (pack shape group id bytes ++ rest) p ≡ length bytes - shape .room * p
   last-of-pack p h = size-of-pack p (omega arith) ∙ omega (arith, rw (← h) at (packets-enough shape (length bytes)), mul-suc (shape .room) p)
 
 -- ---- the packing of a valid message never needs more words than it has

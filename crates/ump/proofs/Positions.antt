@@ -11,11 +11,11 @@ use lib.Seq.{getD-take, getD-drop, getD-append-add}
 use borrow.Author.Tests.{le-ltb}
 use Rattle.ump.specs.Word.{word, octet, octets, Below}
 use Rattle.ump.specs.Packet.{Shape, sysex8, sysex7, header, packet}
-use Rattle.ump.specs.Packing.{statusFor, frame, packsAt, packs, packetsFor, wordsFor, chunk, pack}
+use Rattle.ump.specs.Packing.{statusFor, frame, packsAt, zerosAfter, packs, packetsFor, wordsFor, chunk, pack}
 use Rattle.ump.specs.Origin.{headerOctets}
 use Rattle.ump.proofs.Words.{getD-wordsOf, getD-octets}
-use Rattle.ump.proofs.Sizes.{words-pos, status-small}
-use Rattle.ump.proofs.Packing.{length-frame, length-chunk, packet-packs, octets-frame, below-chunk}
+use Rattle.ump.proofs.Sizes.{words-pos}
+use Rattle.ump.proofs.Packing.{length-frame, packet-packs, octets-frame, chunk-filled, chunk-laid-out}
 use Rattle.ump.proofs.First.{Side, under, over, side}
 
 -- ---- the octets and words of n bytes, byte i of which is f i
@@ -56,16 +56,16 @@ module _ (shape : Shape) (group : ℕ) (id bytes : List ℕ) (hid : length id �
   size-chunk p = simp (length-take, length-drop)
 
   pub frame-split : (p : ℕ)
-      → frame shape (status p) group id (chunk shape bytes p) ≡ headerOctets shape group id size p ++ (chunk shape bytes p ++ replicate (shape .room - length (chunk shape bytes p)) 0)
+      → frame shape (status p) group id (chunk shape bytes p) (zerosAfter shape (chunk shape bytes) p) ≡ headerOctets shape group id size p ++ (chunk shape bytes p ++ zerosAfter shape (chunk shape bytes) p)
   unfolding frame
   frame-split p = rw (size-chunk p)
 
-  pub getD-frame : (p q : ℕ) → q < 4 * shape .words → getD (frame shape (status p) group id (chunk shape bytes p)) q 0 ≡ octetAt shape group id size (λ i. getD bytes i 0) p q
+  pub getD-frame : (p q : ℕ) → q < 4 * shape .words → getD (frame shape (status p) group id (chunk shape bytes p) (zerosAfter shape (chunk shape bytes) p)) q 0 ≡ octetAt shape group id size (λ i. getD bytes i 0) p q
   unfolding octetAt
   getD-frame p q h = rw (frame-split p) (go (side q (header shape)))
     where
       go : Side q (header shape)
-          → getD (headerOctets shape group id size p ++ (chunk shape bytes p ++ replicate (shape .room - length (chunk shape bytes p)) 0)) q 0
+          → getD (headerOctets shape group id size p ++ (chunk shape bytes p ++ zerosAfter shape (chunk shape bytes) p)) q 0
           ≡ cond (ltb q (header shape)) (getD (headerOctets shape group id size p) q 0) (getD bytes (shape .room * p + (q - header shape)) 0)
       go (under l e) = rw e (List·getD-append (headerOctets shape group id size p) _ 0 q (omega (arith, length-head p)))
       go (over l e) =
@@ -73,15 +73,15 @@ module _ (shape : Shape) (group : ℕ) (id bytes : List ℕ) (hid : length id �
           let z : q ≡ length (headerOctets shape group id size p) + i = omega (arith, length-head p) in
           let r : i < shape .room = omega (arith, shape .full) in
           rw e
-          (ap (λ (k : ℕ). getD (headerOctets shape group id size p ++ (chunk shape bytes p ++ replicate (shape .room - length (chunk shape bytes p)) 0)) k 0) z
-          ∙ getD-append-add (headerOctets shape group id size p) (chunk shape bytes p ++ replicate (shape .room - length (chunk shape bytes p)) 0) i 0
+          (ap (λ (k : ℕ). getD (headerOctets shape group id size p ++ (chunk shape bytes p ++ zerosAfter shape (chunk shape bytes) p)) k 0) z
+          ∙ getD-append-add (headerOctets shape group id size p) (chunk shape bytes p ++ zerosAfter shape (chunk shape bytes) p) i 0
           ∙ getD-padded (chunk shape bytes p) (shape .room - length (chunk shape bytes p)) i
           ∙ getD-take (shape .room) (drop (shape .room * p) bytes) i 0 r
           ∙ getD-drop (shape .room * p) bytes i 0)
 
   -- word k of the fewest-packet form
   pub getD-pack : (k : ℕ) → k < wordsFor shape size → getD (pack shape group id bytes) k 0 ≡ wordAt shape group id size (λ i. getD bytes i 0) k
-  unfolding pack wordAt packsAt
+  unfolding pack packs wordAt packsAt
   getD-pack k h =
       let n : ℕ = packetsFor shape size in
       let p : ℕ = k / shape .words in
@@ -89,16 +89,16 @@ module _ (shape : Shape) (group : ℕ) (id bytes : List ℕ) (hid : length id �
       let e : shape .words * p + j ≡ k = div-add-mod k (shape .words) in
       let l : j < shape .words = mod-lt k (words-pos shape) in
       let hp : p < n = div-lt-iff-lt-mul (words-pos shape) .1 (rw mul-comm at h) in
-      let whole : length (frame shape (status p) group id (chunk shape bytes p)) ≡ 4 * shape .words = length-frame shape (status p) group id (chunk shape bytes p) hid (length-chunk shape bytes p) in
-      let at : (i : ℕ) → i < 4 → getD (frame shape (status p) group id (chunk shape bytes p)) (4 * j + i) 0 ≡ octetAt shape group id size (λ x. getD bytes x 0) p (4 * j + i) = λ i b. getD-frame p (4 * j + i) (omega arith) in
+      let whole : length (frame shape (status p) group id (chunk shape bytes p) (zerosAfter shape (chunk shape bytes) p)) ≡ 4 * shape .words = length-frame shape (status p) group id _ _ hid (chunk-filled shape bytes p) in
+      let at : (i : ℕ) → i < 4 → getD (frame shape (status p) group id (chunk shape bytes p) (zerosAfter shape (chunk shape bytes) p)) (4 * j + i) 0 ≡ octetAt shape group id size (λ x. getD bytes x 0) p (4 * j + i) = λ i b. getD-frame p (4 * j + i) (omega arith) in
       let z : 4 * j + 0 ≡ 4 * j = omega arith in
       let m : List ℕ = packs shape group id n (chunk shape bytes) ++ [] in
       ap (λ (x : List ℕ). getD x k 0) (sym (append-nil (packs shape group id n (chunk shape bytes))))
       ∙ ap (λ (x : ℕ). getD m x 0) (sym e)
       ∙ sym (getD-drop (shape .words * p) m j 0)
       ∙ sym (getD-take (shape .words) (drop (shape .words * p) m) j 0 l)
-      ∙ ap (λ (x : List ℕ). getD x j 0) (packet-packs shape group id n (chunk shape bytes) hid (length-chunk shape bytes) [] p hp)
-      ∙ getD-wordsOf (frame shape (status p) group id (chunk shape bytes p)) j (omega arith)
+      ∙ ap (λ (x : List ℕ). getD x j 0) (packet-packs shape group id n (chunk shape bytes) _ hid (λ q h. chunk-filled shape bytes q) [] p hp)
+      ∙ getD-wordsOf (frame shape (status p) group id (chunk shape bytes p) (zerosAfter shape (chunk shape bytes) p)) j (omega arith)
       ∙ rw (z, getD-frame p (4 * j) (omega arith), at 1 (omega arith), at 2 (omega arith), at 3 (omega arith))
 
 -- ---- word by word, for the loops that write it
@@ -157,14 +157,14 @@ module _ (shape : Shape) (group : ℕ) (id bytes : List ℕ) (hg : group < 16) (
   packets = packetsFor shape (length bytes)
 
   abbrev framed : ℕ → List ℕ
-  framed p = frame shape (statusFor packets p) group id (chunk shape bytes p)
+  framed p = frame shape (statusFor packets p) group id (chunk shape bytes p) (zerosAfter shape (chunk shape bytes) p)
 
   pub octet-of-pack : (p j : ℕ) → p < packets → j < 4 * shape .words → getD (octets (pack shape group id bytes)) (4 * shape .words * p + j) 0 ≡ getD (framed p) j 0
-  unfolding pack packsAt
+  unfolding pack packs packsAt
   octet-of-pack p j hp l =
       let m : List ℕ = packs shape group id packets (chunk shape bytes) in
       ap (λ (x : List ℕ). getD (octets x) (4 * shape .words * p + j) 0) (sym (append-nil m))
       ∙ sym (octet-of-packet shape (m ++ []) p j l)
-      ∙ ap (λ (x : List ℕ). getD (octets x) j 0) (packet-packs shape group id packets (chunk shape bytes) ht (length-chunk shape bytes) [] p hp)
+      ∙ ap (λ (x : List ℕ). getD (octets x) j 0) (packet-packs shape group id packets (chunk shape bytes) _ ht (λ q h. chunk-filled shape bytes q) [] p hp)
       ∙ ap (λ (x : List ℕ). getD x j 0)
-      (octets-frame shape (statusFor packets p) group id (chunk shape bytes p) (omega (arith, status-small packets p)) hg ht (length-chunk shape bytes p) bt (below-chunk shape bytes bb p))
+      (octets-frame shape group id packets (chunk shape bytes) _ (chunk-laid-out shape group id bytes hg ht bt bb) p hp)

@@ -29,7 +29,7 @@ length-id shape words p = omega (arith, length-take (shape .ids) (octet (firstWo
 pub below-id : (shape : Shape) (words : List ℕ) (p : ℕ) → Below 256 (idAt shape words p)
 below-id shape words p = below-take 256 (shape .ids) _ (omega arith, (omega arith, tt))
 
-below-payloadAt : (shape : Shape) (words : List ℕ) (p : ℕ) → Below (shape .limit) (payloadAt shape words p)
+pub below-payloadAt : (shape : Shape) (words : List ℕ) (p : ℕ) → Below (shape .limit) (payloadAt shape words p)
 unfolding payloadAt
 below-payloadAt shape words p = below-map (shape .limit) (take (sizeAt shape words p) (drop (header shape) (octets (packet shape words p)))) (limit-pos shape)
 

@@ -5,6 +5,7 @@ use mathlib.Core.List.{List, [], _∷_, _++_}
 use Prim.Native.Nat.{ℕ, _+_, _-_, _≤_, _<_}
 use lib.ListN.{length, getD, take, drop}
 use Rattle.refusal.specs.Answer.{Answer, gives, refused, mapAnswer}
+use Rattle.refusal.specs.Tight.{HasAnswer}
 use Rattle.ump.specs.Word.{Below}
 use Rattle.ump.specs.Packet.{Shape}
 use Rattle.ump.specs.Check.{payloadOf}
@@ -38,11 +39,6 @@ MessageLooker = List ℕ → ℕ → List ℕ → List ℕ → ℕ → Answer �
 -- a byte of a message: the words, the length, the index
 abbrev pub Reader : Type 1
 Reader = List ℕ → ℕ → ℕ → Answer ℕ → Type 0
-
--- a call that has an outcome
-pub record HasAnswer {A : Type 0} (Call : Answer A → Type 0) : Type 0 where
-  pub answer : Answer A
-  pub call : Call answer
 
 -- ---- one edit
 

@@ -51,3 +51,8 @@ pub record Called {A : Type 0} (n : ℕ) (ps : List (PK n)) (r : RK n) (Promise 
 -- a list that is lent, at some place of memory
 abbrev pub lent : List ℕ → RefT (List ℕ)
 lent list = record { ptr = (0, 0); name = 0; now = list }
+
+-- a call that has an outcome, so that nothing is said of none
+pub record HasAnswer {A : Type 0} (Call : Answer A → Type 0) : Type 0 where
+  pub answer : Answer A
+  pub call : Call answer

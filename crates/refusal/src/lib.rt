@@ -28,6 +28,7 @@ pub enum Refusal {
     Full,
     Missing,
     Ring,
+    Other,
 }
 
 // A refusal with its place.
@@ -77,5 +78,6 @@ pub fn number(refusal: Refusal) -> u8
         Refusal::Full => 23,
         Refusal::Missing => 24,
         Refusal::Ring => 25,
+        Refusal::Other => 26,
     }
 }

@@ -47,7 +47,7 @@ pub(crate) fn place_of(words: &[u32], packets: usize, size: usize, index: usize)
 }
 
 // Payload byte `byte` of packet `packet` of a SysEx8 message.
-pub(crate) fn byte_at(words: &[u32], packet: usize, byte: usize) -> u8
+pub fn byte_at(words: &[u32], packet: usize, byte: usize) -> u8
     requires { ⌜ (4 * packet + 4 ≤ length (now words)) × (packet < 4096) × (byte < 13) ⌝ }
     ensures { λ r. ⌜ r ≡ byteAt sysex8 (now (words .entry)) packet byte ⌝ }
 {

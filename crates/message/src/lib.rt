@@ -1,5 +1,5 @@
 // Messages in lent words: the check, payload bytes, and the setters; SysEx8 and SysEx7.
-mod bytes;
+pub mod bytes;
 mod heads;
 mod scan;
 pub mod sysex7;

@@ -1,0 +1,9 @@
+pub mod Likeness
+pub mod Carrying
+pub mod Reasons
+pub mod Judging
+pub mod Named
+pub mod Calls
+pub mod Promises
+pub mod Unique
+pub mod ShutOut

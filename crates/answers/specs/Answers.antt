@@ -36,7 +36,7 @@ abbrev pub numberAnswer : Answer ℕ → NumberAnswer
 numberAnswer (gives value) = record { refusal = 0; place = 0; value = value }
 numberAnswer (refused number place) = record { refusal = number; place = place; value = 0 }
 
--- a call that only stores gives no value
+-- a call that only stores, or only says yes, gives no value
 abbrev pub doneAnswer : Verdict → NumberAnswer
 doneAnswer (gives u) = record { refusal = 0; place = 0; value = 0 }
 doneAnswer (refused number place) = record { refusal = number; place = place; value = 0 }

@@ -5,6 +5,7 @@ ghost use Rattle.refusal.specs.Meaning.{faultOf, storedMeaning, byteMeaning};
 ghost use Rattle.bit_ops.specs.Meaning.{bitMeaning, wordMeaning, setMeaning};
 ghost use Rattle.packet.specs.Meaning.{kindMeaning, packetMeaning8, packetMeaning7};
 ghost use Rattle.message.specs.Meaning.{checkMeaning8, checkMeaning7, copiedMeaning};
+ghost use Rattle.carries.specs.Meaning.{carriedMeaning};
 ghost use Rattle.splice.specs.Meaning.{repackedMeaning, splicedMeaning};
 ghost use Rattle.edit.specs.Meaning.{grownMeaning, movedMeaning, originMeaning};
 ghost use Rattle.look.specs.Meaning.{runMeaning};
@@ -20,6 +21,7 @@ ghost use Rattle.answers.specs.Answers.{cursorAnswer, readAnswer, dumpAn
 use bit_ops::BitRead;
 use bit_ops::FieldSet;
 use bit_ops::WordRead;
+use carries::Carried;
 use chain::Basis;
 use chain::Described;
 use chain::Description;
@@ -46,7 +48,7 @@ use store::Checked;
 use stream::Written;
 
 // A number: a byte, a field or a word with a field set, a size in bytes, a length in words or bytes, a count of dumps; 0 where a call only
-// stores.
+// stores or only says yes.
 #[repr(C)]
 pub struct NumberAnswer {
     pub refusal: u8,
@@ -190,6 +192,16 @@ pub fn stored(answer: Stored) -> NumberAnswer
     match answer {
         Stored::Done => given(0),
         Stored::Refused(fault) => refused(fault),
+    }
+}
+
+// The answer of checking what another sender wrote.
+pub fn carried(answer: Carried) -> NumberAnswer
+    ensures { λ r. ⌜ r ≡ doneAnswer (carriedMeaning answer) ⌝ }
+{
+    match answer {
+        Carried::Yes => given(0),
+        Carried::Refused(fault) => refused(fault),
     }
 }
 

@@ -10,3 +10,5 @@ pub mod Restorer
 pub mod Banks
 pub mod Looker
 pub mod Looked
+pub mod Asker
+pub mod Judged

@@ -1,15 +1,16 @@
 -- Wrong structs that the promises shut out, two of each kind of struct, each on a concrete input. What else is wrong is shut out by the
 -- promise of the wrapped call, of which an exported call answers the struct. Assumes nothing.
 use mathlib.Core.Path.{_≡_}
-use mathlib.Core.Bool.{true, false, cond}
+use mathlib.Core.Bool.{true, false, not, cond}
 use mathlib.Core.List.{List, [], _∷_, _++_}
 use Prim.Native.Nat.{ℕ, _+_, _*_}
+use lib.Dec.{T, eqb}
 use lib.IntN.{ℤ, pos, negsuc}
 use lib.ListN.{getD, replicate}
 use Rattle.refusal.specs.Tight.{ShutOut, Shuts}
 use Rattle.refusal.proofs.Tight.{differ}
 use Rattle.ump.specs.Word.{getField, octets, wordsOf}
-use Rattle.ump.specs.Packet.{sizeOf, payloadAt, joined, payload}
+use Rattle.ump.specs.Packet.{sysex8, sizeOf, payloadAt, joined, payload}
 use Rattle.ump.specs.Packing.{statusFor, frame, packsAt, packs, packetsFor, pack}
 use Rattle.ump.specs.Single.{readPacket8, blank}
 use Rattle.ump.specs.Check.{firstWhere, badType, badStatus, badCount, badGroup, badId, statusNumber, checkPackets, check, checked}
@@ -18,8 +19,10 @@ use Rattle.ump.specs.Edits.{moveEdit, editsFrom, replaced}
 use Rattle.ump.specs.Runs.{runFrom}
 use Rattle.ump.specs.Origin.{originOf, originIn, origin}
 use Rattle.ump.specs.Reader.{row, walk, places, unread, nth, reader}
-use Rattle.ump.specs.Samples.{alone, message2, bytes6}
+use Rattle.ump.specs.Samples.{alone, message2, message5, bytes6}
 use Rattle.edit.specs.Growth.{growthOf}
+use Rattle.carries.specs.Carries.{otherBytes, carries}
+use Rattle.carries.proofs.Calls.{askGiven}
 use Rattle.look.specs.Look.{find}
 use Rattle.store.specs.Store.{isData, bodySize, recordsAfter, followsBy, allowedBy, wellFormed, dataIn, patchesIn, dumpOf, dumpsIn, twice, sound, held}
 use Rattle.store.specs.Samples as store
@@ -37,11 +40,14 @@ use Rattle.answers.specs.declared.RunAnswer.{RunAnswer}
 use Rattle.answers.specs.declared.CursorAnswer.{CursorAnswer}
 use Rattle.answers.specs.declared.ReadAnswer.{ReadAnswer}
 use Rattle.answers.specs.declared.DumpAnswer.{DumpAnswer}
+use Rattle.answers.specs.Answers.{doneAnswer}
 use Rattle.latchbeacon.proofs.fields.latchbeacon_bit.Reads as bit
 use Rattle.latchbeacon.proofs.packets.latchbeacon_sysex8_packet.Kinds as packet-kinds
 use Rattle.latchbeacon.proofs.packets.latchbeacon_sysex8_packet.Reads as packet
 use Rattle.latchbeacon.proofs.messages.latchbeacon_sysex8_check.Kinds as check-kinds
 use Rattle.latchbeacon.proofs.messages.latchbeacon_sysex8_check.Reads as check-promise
+use Rattle.latchbeacon.proofs.messages.latchbeacon_sysex8_carries.Kinds as carries-kinds
+use Rattle.latchbeacon.proofs.messages.latchbeacon_sysex8_carries.Reads as carries-promise
 use Rattle.latchbeacon.proofs.splices.latchbeacon_sysex8_splice.Kinds as splice-kinds
 use Rattle.latchbeacon.proofs.splices.latchbeacon_sysex8_splice.Reads as splice-promise
 use Rattle.latchbeacon.proofs.splices.latchbeacon_sysex8_origin.Kinds as origin-kinds
@@ -103,6 +109,27 @@ check-words : ShutOut 1 check-kinds.ps check-kinds.r check-promise.Post
     (λ κs a x s. (a .0 .now ≡ alone 0x50110000) × (a .1 .0 ≡ 4) × (x ≡ record { refusal = 6; place = 0; group = 0; id = 0; size = 0; words = 4 }))
 unfolding checked check checkPackets badType badStatus badCount badGroup badId statusNumber firstWhere statusFor payload payloadAt sizeOf octets joined
 check-words κs a x s w p = differ (λ (r : MessageAnswer). r .words) tt (rw (w .0, w .1, w .2) at p)
+
+-- ---- a yes or no: P5's message, which carries A0 A1 A2, asked for A0 A1 B2
+
+abbrev asked : List ℕ
+asked = 0xA0 ∷ 0xA1 ∷ 0xB2 ∷ []
+
+abbrev NotSaid : NumberAnswer → Type 0
+NotSaid wrong = ShutOut 2 carries-kinds.ps carries-kinds.r carries-promise.Post (λ κs a x s. askGiven message5 12 asked 1 (0x05 ∷ []) κs a × (x ≡ wrong))
+
+not-said : (f : NumberAnswer → ℕ) (wrong : NumberAnswer) → T (not (eqb (f wrong) (f (doneAnswer (carries sysex8 message5 12 asked 1 (0x05 ∷ [])))))) → NotSaid wrong
+not-said f wrong t κs a x s w p = let g = w .0 in differ f t (rw (g .0, g .1, g .2, g .3, g .4, w .1) at p)
+
+-- a no is not said to be a yes
+carries-yes : NotSaid (record { refusal = 0; place = 0; value = 0 })
+unfolding carries otherBytes check checkPackets badType badStatus badCount badGroup badId statusNumber firstWhere statusFor payload payloadAt sizeOf octets joined
+carries-yes = not-said (λ r. r .refusal) _ tt
+
+-- the place is a word index, not the number of a packet
+carries-place : NotSaid (record { refusal = 26; place = 2; value = 0 })
+unfolding carries otherBytes check checkPackets badType badStatus badCount badGroup badId statusNumber firstWhere statusFor payload payloadAt sizeOf octets joined
+carries-place = not-said (λ r. r .place) _ tt
 
 -- ---- a change: P2's message with its last byte taken out
 

@@ -53,6 +53,8 @@ use Rattle.latchbeacon.proofs.messages.latchbeacon_sysex8_byte.Kinds as
 use Rattle.latchbeacon.proofs.messages.latchbeacon_sysex8_byte.Reads as sysex8-byte
 use Rattle.latchbeacon.proofs.messages.latchbeacon_sysex8_payload.Kinds as sysex8-payload-kinds
 use Rattle.latchbeacon.proofs.messages.latchbeacon_sysex8_payload.Reads as sysex8-payload
+use Rattle.latchbeacon.proofs.messages.latchbeacon_sysex8_carries.Kinds as sysex8-carries-kinds
+use Rattle.latchbeacon.proofs.messages.latchbeacon_sysex8_carries.Reads as sysex8-carries
 use Rattle.latchbeacon.proofs.messages.latchbeacon_sysex8_set_group.Kinds as sysex8-set-group-kinds
 use Rattle.latchbeacon.proofs.messages.latchbeacon_sysex8_set_group.Reads as sysex8-set-group
 use Rattle.latchbeacon.proofs.messages.latchbeacon_sysex8_set_stream_id.Kinds as sysex8-set-stream-id-kinds
@@ -169,6 +171,9 @@ sysex8-byte-unique κs a x y s t p q = p ∙ sym q
 
 sysex8-payload-unique : FixesOutcome 2 sysex8-payload-kinds.ps sysex8-payload-kinds.r sysex8-payload.Post (λ κs s. s .1 .1 .0 .now)
 sysex8-payload-unique κs a x y s t p q = both-fixed (λ r. r) (λ r r′ e. e) p q
+
+sysex8-carries-unique : FixesResult 2 sysex8-carries-kinds.ps sysex8-carries-kinds.r sysex8-carries.Post
+sysex8-carries-unique κs a x y s t p q = p ∙ sym q
 
 sysex8-set-group-unique : FixesOutcome 1 sysex8-set-group-kinds.ps sysex8-set-group-kinds.r sysex8-set-group.Post (λ κs s. s .0 .now)
 sysex8-set-group-unique κs a x y s t p q = both-fixed (λ r. r) (λ r r′ e. e) p q

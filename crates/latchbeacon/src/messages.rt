@@ -1,8 +1,10 @@
-// The exported calls on messages: the check, payload bytes, and the setters.
+// The exported calls on messages: the check, payload bytes, what another sender wrote, and the setters.
 ghost use mathlib.Core.Path.{_≡_};
+ghost use mathlib.Core.List.{[], _∷_};
 ghost use Rattle.ump.specs.Packet.{sysex8, sysex7};
 ghost use Rattle.ump.specs.Check.{checked};
 ghost use Rattle.ump.specs.Setters.{getByte, copyPayload, setGroup, setId, setByte};
+ghost use Rattle.carries.specs.Carries.{carries};
 ghost use Rattle.answers.specs.Answers.{numberAnswer, doneAnswer, messageAnswer, leaving};
 use answers::MessageAnswer;
 use answers::NumberAnswer;
@@ -45,6 +47,20 @@ pub extern "C" fn latchbeacon_sysex8_payload(
     ensures { λ r. ⌜ (r, now (bytes .exit)) ≡ leaving numberAnswer (copyPayload sysex8 (now (words .entry)) length (now (bytes .entry))) ⌝ }
 {
     answers::copied(message::sysex8::payload(words, length, bytes))
+}
+
+// Whether the message, in any packing, carries this payload with this group and stream id; the check's refusals, then Field, Other.
+#[no_mangle]
+pub extern "C" fn latchbeacon_sysex8_carries(
+    words: &[u32],
+    length: usize,
+    payload: &[u8],
+    group: u8,
+    id: u8,
+) -> NumberAnswer
+    ensures { λ r. ⌜ r ≡ doneAnswer (carries sysex8 (now (words .entry)) length (now (payload .entry)) group (id ∷ [])) ⌝ }
+{
+    answers::carried(carries::carries(words, length, payload, group, id))
 }
 
 // Sets the group of the message; the check's refusals, then Field.

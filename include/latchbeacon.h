@@ -1,6 +1,6 @@
 /*
- * latchbeacon: MIDI 2.0 SysEx8 bulk dumps: check, read, set, pack and splice, look at bytes of a result that is not written, and
- * restore from a store, in buffers that the caller lends.
+ * latchbeacon: MIDI 2.0 SysEx8 bulk dumps: check, read, compare with a payload, set, pack and splice, look at bytes of a result that
+ * is not written, and restore from a store, in buffers that the caller lends.
  *
  * Every call answers for any words, bytes and numbers. It takes no memory but stack, keeps nothing and never stops the program.
  *
@@ -49,9 +49,9 @@ _Static_assert(sizeof(size_t) == 8, "latchbeacon takes a size_t of 64 bits");
 extern "C" {
 #endif
 
-/* 0 for a call that is accepted; else why it refuses. The place is the word index of the first packet at fault for 5 to 12, the index
- * of the first such byte for 18, else 0. No refusal has the number 19, and none will: it was taken out, as no input was ever given
- * it. */
+/* 0 for a call that is accepted; else why it refuses. The place is the word index of the first packet at fault for 5 to 12 and 26 (0
+ * where only the sizes differ), the index of the first such byte for 18, else 0. No refusal has the number 19, and none will: it was
+ * taken out, as no input was ever given it. */
 enum latchbeacon_refusal {
     LATCHBEACON_ACCEPTED = 0,  /* the call is accepted */
     LATCHBEACON_LONG = 1,      /* more than LATCHBEACON_MOST_WORDS words lent */
@@ -80,7 +80,8 @@ enum latchbeacon_refusal {
     LATCHBEACON_TWICE = 22,    /* store: a number used again */
     LATCHBEACON_FULL = 23,     /* store: a 257th dump */
     LATCHBEACON_MISSING = 24,  /* following bases from a dump comes to a number not held; or it is not held itself */
-    LATCHBEACON_RING = 25      /* following bases from a dump comes back to a number already passed */
+    LATCHBEACON_RING = 25,     /* following bases from a dump comes back to a number already passed */
+    LATCHBEACON_OTHER = 26     /* the message has another group, stream id or payload than the one named */
 };
 
 /* What a packet is. An unexpected end is SysEx8's alone. */
@@ -111,7 +112,7 @@ enum latchbeacon_run_source {
 };
 
 /* A number: a byte, a field, a word with a field set, a size in bytes, a length in words, that of a store in bytes; 0 where a call
- * only stores. */
+ * only stores, or only says yes. */
 typedef struct {
     uint8_t refusal;
     size_t place;
@@ -268,6 +269,13 @@ latchbeacon_number latchbeacon_sysex8_byte(const uint32_t *words, size_t words_l
 /* Copies the payload to `bytes` and answers its size; bytes past it stay. Refusals: the check's, then 14 (fewer than that lent). */
 latchbeacon_number latchbeacon_sysex8_payload(const uint32_t *words, size_t words_lent, size_t length, uint8_t *bytes,
                                               size_t bytes_lent);
+
+/* Says whether the message carries this payload, with this group (0 to 15) and stream id, in whatever packing: packets of any sizes,
+ * empty ones too, whatever their unused octets hold. The payload may be empty, and of any size. Yes is an accepted answer, with the
+ * value 0; no is the refusal. Nothing is written. Refusals: the check's, then 16, then 26. The place of 26 is 0 if the group or the
+ * stream id differs, else the word index of the packet with the first byte that differs, or 0 if only the sizes differ. */
+latchbeacon_number latchbeacon_sysex8_carries(const uint32_t *words, size_t words_lent, size_t length, const uint8_t *payload,
+                                              size_t payload_size, uint8_t group, uint8_t id);
 
 /* Sets the group of every packet of the message (0 to 15); every other bit lent stays. Refusals: the check's, then 16. */
 latchbeacon_number latchbeacon_sysex8_set_group(uint32_t *words, size_t words_lent, size_t length, uint8_t group);

@@ -4,7 +4,7 @@ use std::fmt;
 
 /// Why a call refuses: the refusals of the library by name.
 ///
-/// Refusals that are added later have numbers from 26. None has 19, and none will: it was taken out, as no input was ever given it.
+/// Refusals that are added later have numbers from 27. None has 19, and none will: it was taken out, as no input was ever given it.
 ///
 /// ```
 /// use latchbeacon::Refusal;
@@ -67,12 +67,14 @@ pub enum Refusal {
     Missing,
     /// 25: following bases from a dump comes back to a number already passed.
     Ring,
+    /// 26: the message has another group, stream id or payload than the one named.
+    Other,
     /// Any other number: a refusal that a later library has and these bindings do not know.
     Unknown(u8),
 }
 
 // Numbers, names and meanings, in the order of the numbers.
-const TABLE: [(u8, Refusal, &str, &str); 24] = [
+const TABLE: [(u8, Refusal, &str, &str); 25] = [
     (1, Refusal::Long, "Long", "more than 16,384 words lent"),
     (2, Refusal::Length, "Length", "message length above the words lent"),
     (3, Refusal::Short, "Short", "under 4 words (SysEx7: 2)"),
@@ -108,6 +110,7 @@ const TABLE: [(u8, Refusal, &str, &str); 24] = [
     (23, Refusal::Full, "Full", "a 257th dump in the store"),
     (24, Refusal::Missing, "Missing", "following bases comes to a number that the store does not hold"),
     (25, Refusal::Ring, "Ring", "following bases comes back to a number already passed"),
+    (26, Refusal::Other, "Other", "the message has another group, stream id or payload than the one named"),
 ];
 
 impl Refusal {
@@ -156,7 +159,8 @@ impl Refusal {
 pub struct Error {
     /// Why the call refuses.
     pub refusal: Refusal,
-    /// Where: the word index of the first packet at fault for refusals 5 to 12, the index of the first such byte for 18, else 0.
+    /// Where: the word index of the first packet at fault for refusals 5 to 12 and 26 (0 where only the sizes differ), the index of the
+    /// first such byte for 18, else 0.
     pub place: usize,
 }
 
@@ -176,7 +180,7 @@ impl fmt::Display for Error {
     // Number, name, place and meaning, on one line.
     fn fmt(&self, formatter: &mut fmt::Formatter<'_>) -> fmt::Result {
         let unit = match self.number() {
-            5..=12 => "word ",
+            5..=12 | 26 => "word ",
             18 => "byte ",
             _ => "",
         };

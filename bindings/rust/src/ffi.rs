@@ -132,6 +132,8 @@ extern "C" {
     fn latchbeacon_sysex7_check(words: *const u32, words_lent: usize, length: usize) -> Message;
     fn latchbeacon_sysex8_byte(words: *const u32, words_lent: usize, length: usize, index: usize) -> Number;
     fn latchbeacon_sysex8_payload(words: *const u32, words_lent: usize, length: usize, bytes: *mut u8, bytes_lent: usize) -> Number;
+    fn latchbeacon_sysex8_carries(words: *const u32, words_lent: usize, length: usize, payload: *const u8,
+                                  payload_size: usize, group: u8, id: u8) -> Number;
     fn latchbeacon_sysex8_set_group(words: *mut u32, words_lent: usize, length: usize, group: u8) -> Number;
     fn latchbeacon_sysex8_set_stream_id(words: *mut u32, words_lent: usize, length: usize, id: u8) -> Number;
     fn latchbeacon_sysex8_set_byte(words: *mut u32, words_lent: usize, length: usize, index: usize, value: u8) -> Number;
@@ -297,6 +299,13 @@ pub(crate) fn sysex8_payload(words: &[u32], length: usize, bytes: &mut [u8]) -> 
     let (address, lent) = (bytes.as_mut_ptr(), bytes.len());
     // SAFETY: `words` is a slice; `bytes` is a slice that is lent to this call alone, so they do not overlap.
     value(unsafe { latchbeacon_sysex8_payload(words.as_ptr(), words.len(), length, address, lent) })
+}
+
+// Whether a message carries a payload with a group and a stream id; a no is the refusal.
+pub(crate) fn sysex8_carries(words: &[u32], length: usize, payload: &[u8], group: u8, id: u8) -> Result<(), Error> {
+    let (address, lent) = (words.as_ptr(), words.len());
+    // SAFETY: `words` and `payload` are slices. The call only reads.
+    unsafe { latchbeacon_sysex8_carries(address, lent, length, payload.as_ptr(), payload.len(), group, id) }.accepted().map(drop)
 }
 
 // Sets the group of a message.

@@ -1,5 +1,5 @@
-//! MIDI 2.0 SysEx8 bulk dumps: check, read, set, pack and splice, look at bytes of a result that is not written, and restore from a
-//! store, in words that the caller lends.
+//! MIDI 2.0 SysEx8 bulk dumps: check, read, compare with a payload, set, pack and splice, look at bytes of a result that is not
+//! written, and restore from a store, in words that the caller lends.
 //!
 //! This crate is a safe skin over the static library `latchbeacon`, whose calls are proved to meet their contracts for every
 //! input. It has no other dependencies. It links on Linux, on x86-64 and on Arm (aarch64). What is proved is compiled for x86-64; the
@@ -35,6 +35,9 @@
 //! Where only some bytes of a patched dump are asked for, nothing needs to be written: module [`look`] lends them run by run,
 //! [`Message::byte_after`] and [`Store::byte`] answer one of them.
 //!
+//! Whether the packets that somebody else made carry a payload, in whatever packing, is said by [`View::carries`]. A no names the packet
+//! at fault.
+//!
 //! # Limits
 //!
 //! A buffer has at most [`MOST_WORDS`] words: 4,096 packets with [`MOST_BYTES`] payload bytes. Lend no more than that;
@@ -56,6 +59,7 @@
 //! | `message.payload()` | [`message.payload()`](Message::payload), the same kind of iterator |
 //! | `message.payload().nth(i)` | [`message.byte(i)?`](Message::byte), or `message.payload().nth(i)` |
 //! | `message.payload().collect::<Vec<u8>>()` | [`message.payload().to_vec()`](Payload::to_vec), or [`message.copy_payload(&mut bytes)?`](Message::copy_payload) |
+//! | `message.payload().eq(bytes)`, and the same of `group()` and `stream_id()` | [`message.carries(&bytes, group, id)?`](Message::carries) |
 //! | `message.set_payload(data)`, `try_set_payload(data)?` | [`message.set_payload(&bytes)?`](Message::set_payload) |
 //! | `message.set_byte(byte, index)` | [`message.set_byte(index, byte)?`](Message::set_byte); mind the order |
 //! | `message.splice_payload(data, range)`, `try_splice_payload(data, range)?` | [`message.splice(range, &bytes)?`](Message::splice), which answers the growth; mind the order |

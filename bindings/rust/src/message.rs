@@ -109,6 +109,43 @@ impl<'a> View<'a> {
         ffi::sysex8_payload(self.words, self.words.len(), bytes)
     }
 
+    /// Whether the message carries this payload, with this group and stream id, in whatever packing: packets of any sizes, empty ones
+    /// too, whatever their unused octets hold. `Ok` is a yes, and a no is the error.
+    ///
+    /// The payload may be of any size. For words that somebody else packed, and that are not checked yet, it is
+    /// `View::check(words, length)?.carries(payload, group, id)`: then the check's refusals come first.
+    ///
+    /// # Errors
+    ///
+    /// [`Field`](crate::Refusal::Field) if `group` is over 15; then [`Other`](crate::Refusal::Other) if the group, the stream id or the
+    /// payload differs. Its place is 0 if the group or the stream id differs, else the word index of the packet with the first byte that
+    /// differs, or 0 if only the sizes differ.
+    ///
+    /// ```
+    /// use latchbeacon::{Error, Refusal, View};
+    ///
+    /// // Payload A0 A1 A2 with group 1 and stream id 5, in packets of two, no and one bytes; and all in one packet, with unused octets
+    /// // that are not zero.
+    /// let uneven = [0x5113_05A0, 0xA100_0000, 0, 0, 0x5121_0500, 0, 0, 0, 0x5132_05A2, 0, 0, 0];
+    /// let dirty = [0x5104_05A0, 0xA1A2_7777, 7, 7];
+    /// assert_eq!(View::check(&uneven, 12)?.carries(&[0xA0, 0xA1, 0xA2], 1, 5), Ok(()));
+    /// assert_eq!(View::check(&dirty, 4)?.carries(&[0xA0, 0xA1, 0xA2], 1, 5), Ok(()));
+    ///
+    /// let no = |payload: &[u8], group, id| View::check(&uneven, 12)?.carries(payload, group, id);
+    /// let other = |place| Err(Error { refusal: Refusal::Other, place });
+    /// assert_eq!(no(&[0xA0, 0xFF, 0xA2], 1, 5), other(0)); // a byte of the first packet
+    /// assert_eq!(no(&[0xA0, 0xA1, 0xFF], 1, 5), other(8)); // a byte of the third
+    /// assert_eq!(no(&[0xA0, 0xA1], 1, 5), other(0)); // one byte less
+    /// assert_eq!(no(&[0xA0, 0xA1, 0xA2, 0], 1, 5), other(0)); // one more
+    /// assert_eq!(no(&[0xA0, 0xA1, 0xFF], 2, 5), other(0)); // another group
+    /// assert_eq!(no(&[0xA0, 0xA1, 0xFF], 1, 6), other(0)); // another stream id
+    /// assert_eq!(no(&[0xA0, 0xA1, 0xA2], 16, 5), Err(Error { refusal: Refusal::Field, place: 0 })); // no group
+    /// # Ok::<(), Error>(())
+    /// ```
+    pub fn carries(&self, payload: &[u8], group: u8, id: u8) -> Result<(), Error> {
+        ffi::sysex8_carries(self.words, self.words.len(), payload, group, id)
+    }
+
     /// Where an octet of the words comes from once all edits of a list are done, as [`Message::origin`]. The words lent are those
     /// of the message alone.
     ///
@@ -317,6 +354,30 @@ impl<'a> Message<'a> {
     /// ```
     pub fn copy_payload(&self, bytes: &mut [u8]) -> Result<usize, Error> {
         self.view().copy_payload(bytes)
+    }
+
+    /// Whether the message carries this payload, with this group and stream id, in whatever packing, as [`View::carries`].
+    ///
+    /// # Errors
+    ///
+    /// Those of [`View::carries`].
+    ///
+    /// ```
+    /// use latchbeacon::{Message, Refusal};
+    ///
+    /// let mut words = [0x5112_05A0, 0, 0, 0, 0x5133_05A1, 0xA200_0000, 0, 0];
+    /// let mut message = Message::check(&mut words, 8)?;
+    /// assert_eq!(message.carries(&[0xA0, 0xA1, 0xA2], 1, 5), Ok(()));
+    /// let error = message.carries(&[0xA0, 0xA1, 0xFF], 1, 5).unwrap_err();
+    /// assert_eq!((error.refusal, error.place), (Refusal::Other, 4));
+    ///
+    /// // In another packing it is the same.
+    /// message.repack()?;
+    /// assert_eq!(message.carries(&[0xA0, 0xA1, 0xA2], 1, 5), Ok(()));
+    /// # Ok::<(), latchbeacon::Error>(())
+    /// ```
+    pub fn carries(&self, payload: &[u8], group: u8, id: u8) -> Result<(), Error> {
+        self.view().carries(payload, group, id)
     }
 
     /// Where an octet of the buffer comes from once all edits of a list are done by [`splice_edits`](Message::splice_edits).

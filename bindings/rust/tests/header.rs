@@ -279,7 +279,7 @@ fn differences(header: &str, bindings: &str) -> Vec<String> {
 // The declarations are the header's.
 #[test]
 fn declarations_are_those_of_the_header() {
-    assert_eq!(read_bindings(BINDINGS).len(), 58, "47 functions and 11 structs");
+    assert_eq!(read_bindings(BINDINGS).len(), 59, "48 functions and 11 structs");
     let differences = differences(HEADER, BINDINGS);
     assert!(differences.is_empty(), "the bindings differ from include/latchbeacon.h:\n{}", differences.join("\n"));
 }
@@ -399,6 +399,8 @@ fn a_change_of_a_declaration_is_seen() {
         ("fn latchbeacon_sysex8_words_needed(size: usize) -> usize;", ""),
         ("fn latchbeacon_growth", "fn latchbeacon_more(word: u32) -> usize;\n    fn latchbeacon_growth"),
         ("fn latchbeacon_sysex8_payload(words: *const u32", "fn latchbeacon_sysex8_payload(words: *mut u32"),
+        ("payload: *const u8,\n", "payload: *mut u8,\n"),
+        ("payload_size: usize, group: u8, id: u8) -> Number;", "payload_size: usize, id: u8, group: u8) -> Number;"),
         ("numbers: *const usize", "numbers: *const u32"),
         ("bytes_lent: usize, octet: usize) -> Origin;", "octet: usize, bytes_lent: usize) -> Origin;"),
         ("    pub(crate) number: usize,", "    pub(crate) number: u8,"),

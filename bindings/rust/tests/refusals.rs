@@ -59,7 +59,7 @@ type Call = fn(&mut Message) -> Result<(), Error>;
 // A refused call on a message changes neither it nor the words past it.
 #[test]
 fn a_refused_call_changes_nothing() {
-    let refusals: [Call; 10] = [
+    let refusals: [Call; 12] = [
         |message| message.set_group(16),
         |message| message.set_byte(2, 0),
         |message| message.splice(Edit { from: 2, to: 1, length: 0 }.range(), &[]).map(drop),
@@ -70,8 +70,10 @@ fn a_refused_call_changes_nothing() {
         |message| message.splice_all(&[(1..2, &[1]), (0..1, &[])]).map(drop),
         |message| message.splice_edits(&[Edit::new(0..1, 2)], &[1]).map(drop),
         |message| message.splice_edits(&[Edit::new(0..0, usize::MAX); 3], &[1]).map(drop),
+        |message| message.carries(&[0x41, 0x42], 16, 7),
+        |message| message.carries(&[0x41, 0x43], 2, 7),
     ];
-    let wanted = [16, 13, 13, 13, 13, 13, 14, 20, 13, 13];
+    let wanted = [16, 13, 13, 13, 13, 13, 14, 20, 13, 13, 16, 26];
     for (refusal, number) in refusals.into_iter().zip(wanted) {
         let mut words = [0x5203_0741, 0x4200_0000, 0, 0, 1, 2, 3, 4];
         let before = words;
@@ -165,6 +167,36 @@ fn looks_are_refused() {
     assert_eq!(asked(&[], 0, 2), Err((13, 0)));
     assert_eq!(asked(&[long], 12, 13), Ok(0x42));
     assert_eq!(asked(&[Edit::new(2..2, MOST_BYTES)], MOST_BYTES, MOST_BYTES + 1), Ok(0));
+}
+
+// What other senders write: the check, the group named, then what differs; each is asked with the next at fault too, so that the order
+// shows.
+#[test]
+fn other_senders_are_refused() {
+    let refused = |words: &[u32], length, payload: &[u8], group, id| {
+        let answer = View::check(words, length).and_then(|view| view.carries(payload, group, id));
+        answer.map_err(|error| (error.number(), error.place)).unwrap_err()
+    };
+    let good = packets(&[START, CONTINUE + 0x1_0001, CONTINUE, END + 0x1_0002]);
+    assert_eq!(View::check(&good, 16).unwrap().carries(&[1, 2], 0, 9), Ok(()));
+    let long = [&good[..], &[0; 16_384]].concat();
+    assert_eq!(refused(&long, 17, &[9], 16, 8), (1, 0));
+    assert_eq!(refused(&good, 17, &[9], 16, 8), (2, 0));
+    assert_eq!(refused(&good, 0, &[9], 16, 8), (3, 0));
+    assert_eq!(refused(&good, 15, &[9], 16, 8), (4, 0));
+    assert_eq!(refused(&packets(&[START, 0x4031_0900]), 8, &[9], 16, 8), (5, 4));
+    assert_eq!(refused(&good, 4, &[9], 16, 8), (6, 0));
+    assert_eq!(refused(&good[4..], 12, &[9], 16, 8), (7, 0));
+    assert_eq!(refused(&packets(&[START, CONTINUE, END, END]), 16, &[9], 16, 8), (8, 8));
+    assert_eq!(refused(&good, 12, &[9], 16, 8), (9, 8));
+    assert_eq!(refused(&packets(&[START, 0x502F_0900, END]), 12, &[9], 16, 8), (10, 4));
+    assert_eq!(refused(&packets(&[START, CONTINUE, 0x5131_0900]), 12, &[9], 16, 8), (11, 8));
+    assert_eq!(refused(&packets(&[START, CONTINUE, 0x5031_0800]), 12, &[9], 16, 8), (12, 8));
+    assert_eq!([16, 255].map(|group| refused(&good, 16, &[9], group, 8)), [(16, 0); 2]);
+    assert_eq!([(1, 9), (0, 8), (1, 8)].map(|(group, id)| refused(&good, 16, &[1, 9], group, id)), [(26, 0); 3]);
+    assert_eq!([&[9, 9][..], &[9], &[9, 2, 3]].map(|payload| refused(&good, 16, payload, 0, 9)), [(26, 4); 3]);
+    assert_eq!([&[1, 9][..], &[1, 9, 3]].map(|payload| refused(&good, 16, payload, 0, 9)), [(26, 12); 2]);
+    assert_eq!([&[][..], &[1], &[1, 2, 3]].map(|payload| refused(&good, 16, payload, 0, 9)), [(26, 0); 3]);
 }
 
 // Single packets and streams.

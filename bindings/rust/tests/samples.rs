@@ -47,6 +47,33 @@ fn p3_p4_p5() {
     assert_packs(P5, [0x5104_05A0, 0xA1A2_0000, 0, 0]);
 }
 
+// P1 to P5 carry their payloads, before and after they are packed. P5's second packet is empty: its third byte stands at word 8.
+#[test]
+fn p1_to_p5_carry_their_payloads() {
+    let empty = [0x5011_0900, 0, 0, 0, 0x5031_0900, 0, 0, 0];
+    let payload: Vec<u8> = (1..=13).collect();
+    let samples: [(&[u32], &[u8], u8, u8); 5] = [
+        (&sysex8::EMPTY, &[], 0, 0),
+        (&P2, &[0x41, 0x42], 2, 7),
+        (&empty, &[], 0, 9),
+        (&P4, &payload, 0, 0),
+        (&P5, &[0xA0, 0xA1, 0xA2], 1, 5),
+    ];
+    for (words, payload, group, id) in samples {
+        let mut words = words.to_vec();
+        let mut message = Message::try_from(&mut words[..]).unwrap();
+        for _ in 0..2 {
+            assert_eq!(message.carries(payload, group, id), Ok(()));
+            assert_eq!(message.carries(&[payload, &[0]].concat(), group, id), refused(Refusal::Other, 0));
+            assert_eq!(message.carries(payload, group, id + 1), refused(Refusal::Other, 0));
+            message.repack().unwrap();
+        }
+    }
+    let view = View::try_from(&P5[..]).unwrap();
+    assert_eq!(view.carries(&[0xA0, 0xA1, 0xA3], 1, 5), refused(Refusal::Other, 8));
+    assert_eq!(view.carries(&[0xA0, 0xA1, 0xA2], 16, 5), refused(Refusal::Field, 0));
+}
+
 // P6: thirteen bytes put in at 1.
 #[test]
 fn p6() {

@@ -66,10 +66,11 @@ pub enum Kind {
     LookRun,
     LookByte,
     LookMessage,
+    Carries,
 }
 
 /// The kinds as rows of the table of counts.
-pub const KIND_NAMES: [&str; 26] = [
+pub const KIND_NAMES: [&str; 27] = [
     "word field, read",
     "word field, set",
     "single SysEx8 packet",
@@ -95,11 +96,12 @@ pub const KIND_NAMES: [&str; 26] = [
     "run of an edited payload (added)",
     "byte of an edited payload (added)",
     "byte of an edited message (added)",
+    "whether a payload is carried (added)",
     "chained edits",
 ];
 
 /// The row of chained edits, which are of several kinds.
-pub const CHAINED: usize = 25;
+pub const CHAINED: usize = 26;
 
 impl Kind {
     /// The kind's row in the table of counts.
@@ -130,12 +132,13 @@ impl Kind {
             Kind::LookRun => 22,
             Kind::LookByte => 23,
             Kind::LookMessage => 24,
+            Kind::Carries => 25,
         }
     }
 
     /// Whether the call works on a SysEx8 message: the first number is its length.
     pub fn on_message(self) -> bool {
-        matches!(self.row(), 8 | 10..=18 | 21 | 24)
+        matches!(self.row(), 8 | 10..=18 | 21 | 24 | 25)
     }
 
     /// Whether the call rewrites the message in fewest-packet form.
@@ -162,8 +165,8 @@ impl Kind {
 /// One question. Numbers are: index (and value) of a field; the group of a packet; else the message's length
 /// first, then the call's own; for an origin the octet, then three of each edit; for a byte of an edited message the position, then
 /// the same. A byte of an edited payload has the payload's size in the place of the length, and its bytes before those of the edits.
-/// A run has sizes alone: of the payload, from, to, of the replacement, and the position. Steps are letters in `bytes`, n or t, with
-/// a number each (0 for n).
+/// A run has sizes alone: of the payload, from, to, of the replacement, and the position. Whether a payload is carried, which is the
+/// bytes, has the group and the stream id. Steps are letters in `bytes`, n or t, with a number each (0 for n).
 #[derive(Clone, PartialEq, Eq, Debug)]
 pub struct Input {
     pub kind: Kind,
@@ -237,6 +240,9 @@ impl Ours {
         }
     }
 }
+
+/// What is said for the original where a message that it takes is not the one that is named; it has no call for that.
+pub const OTHER: &str = "another group, stream id or payload";
 
 /// How a call of the original ended.
 #[derive(Clone, Copy, PartialEq, Eq, Debug)]

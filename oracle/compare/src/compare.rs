@@ -10,14 +10,15 @@ use crate::{model, original, port};
 const MOST_NEW: u64 = 60_000;
 
 /// Whether the original can be asked. Not where it has no such call (a length above the words lent; a group or
-/// room for a byte stream; an origin; a look), where it takes no message at all (a call on a message that is refused), and where
-/// it may end the process (D15 on a growing buffer).
+/// room for a byte stream; an origin; a look), where it takes no message at all (a call on a message that is refused) or no such group,
+/// and where it may end the process (D15 on a growing buffer).
 pub fn asked(input: &Input, ours: &Ours) -> bool {
     match input.kind {
         Kind::Check8 | Kind::Check7 => ours.refusal != 2,
         Kind::Stream => input.numbers[0] == 0 && !matches!(ours.refusal, 1 | 14),
         Kind::Needed => input.numbers[0] <= MOST_NEW,
         Kind::Origin | Kind::LookRun | Kind::LookByte | Kind::LookMessage => false,
+        Kind::Carries => matches!(ours.refusal, 0 | 26),
         kind if kind.on_message() && (1..=12).contains(&ours.refusal) => false,
         kind if kind.is_growing() => match ours.refusal {
             13 => input.numbers[1] > input.numbers[2] && input.numbers[1] < 1000,

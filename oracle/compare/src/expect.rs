@@ -1,6 +1,6 @@
 //! What the original must answer for an input: ours where nothing differs, else what the entries of
 //! docs/DIFFERENCES.md say.
-use crate::answers::{End, Input, Kind, Ours, Theirs, ENDED};
+use crate::answers::{End, Input, Kind, Ours, Theirs, ENDED, OTHER};
 use crate::differences::{framed, leading, packed, packets, size};
 use crate::layout::*;
 use crate::model;
@@ -53,6 +53,7 @@ pub fn expected(input: &Input, ours: &Ours) -> Expected {
         Kind::Pack if packed(&input.words) => done(compared(input.message())),
         kind if kind.is_splice() || kind.is_payload() => splice(input, ours),
         Kind::Stream => stream(input),
+        Kind::Carries if ours.refusal != 0 => refused(input, ours.refusal),
         _ => done(ours.values.clone()),
     }
 }
@@ -72,6 +73,7 @@ pub fn text(shape: &Shape, number: u8) -> &'static str {
         (12, _) => "Inconsistent stream id fields across packets",
         (15, true) => "Invalid SysEx8 status byte",
         (15, false) => "Invalid SysEx7 status byte",
+        (26, _) => OTHER,
         _ => "no text",
     }
 }

@@ -267,7 +267,7 @@ pub fn rewriting(random: &mut Random, kind: Kind, words: Vec<u32>, length: u64) 
 
 /// A question about a message, which is valid, or damaged once in `damage`.
 pub fn on_message(random: &mut Random, kind: Kind, damage: usize) -> Input {
-    let (mut words, mut length) = lent(random);
+    let (mut words, length) = lent(random);
     if kind == Kind::Check8 && random.once_in(2) {
         words.truncate(length as usize);
     }
@@ -281,16 +281,21 @@ pub fn on_message(random: &mut Random, kind: Kind, damage: usize) -> Input {
         _ => rewriting(random, kind, words, length),
     };
     if random.once_in(damage) {
-        input.words = damaged(random, &input.words);
-        length = match random.below(8) {
-            0 => input.words.len() as u64 + random.between(1, 5) as u64,
-            1 => u64::MAX,
-            2 => random.below(input.words.len() + 1) as u64,
-            _ => input.words.len() as u64,
-        };
-        input.numbers[0] = length;
+        spoil_message(random, &mut input);
     }
     input
+}
+
+/// Damages the message of a question; its length is then mostly that of all words lent.
+pub fn spoil_message(random: &mut Random, input: &mut Input) {
+    input.words = damaged(random, &input.words);
+    let lent = input.words.len();
+    input.numbers[0] = match random.below(8) {
+        0 => lent as u64 + random.between(1, 5) as u64,
+        1 => u64::MAX,
+        2 => random.below(lent + 1) as u64,
+        _ => lent as u64,
+    };
 }
 
 /// A list of up to `most` edits of a payload, as numbers, in ascending order; each ends no later than the next begins.

@@ -1,6 +1,7 @@
 //! Compares the original and ours. See oracle/README.md.
 mod answers;
 mod asking;
+mod carried;
 mod chains;
 mod compare;
 mod counts;
@@ -29,12 +30,13 @@ use random::Random;
 use std::time::{Duration, Instant};
 
 /// Runs the exhaustive part, the largest messages, then rounds of random inputs until the time is over. Inputs for ours
-/// alone, byte streams with real-time bytes, and looks have numbers of their own, so that the others are the same with and
-/// without them.
+/// alone, byte streams with real-time bytes, looks, and payloads carried have numbers of their own, so that the others are the
+/// same with and without them.
 fn compare_all(options: &Options, counts: &mut Counts) -> Result<(), String> {
     let start = Instant::now();
     exhaustive::run(counts)?;
     looks::exhaustive(counts)?;
+    carried::exhaustive(counts)?;
     println!(
         "short inputs: {} comparisons, {:.1} s",
         counts.total(),
@@ -44,10 +46,12 @@ fn compare_all(options: &Options, counts: &mut Counts) -> Result<(), String> {
     let mut apart = Random::new(!options.seed);
     let mut clocked = Random::clocked(options.seed);
     let mut looking = Random::looking(options.seed);
+    let mut carrying = Random::carrying(options.seed);
     sampled::largest(&mut random, counts)?;
     sampled::largest_origins(&mut apart, counts)?;
     sampled::longest_streams(&mut clocked, counts)?;
     looks::largest(&mut looking, counts)?;
+    carried::largest(&mut carrying, counts)?;
     println!(
         "largest messages done, {:.1} s",
         start.elapsed().as_secs_f64()
@@ -61,6 +65,7 @@ fn compare_all(options: &Options, counts: &mut Counts) -> Result<(), String> {
         sampled::origins(&mut apart, counts)?;
         sampled::clocked_streams(&mut clocked, counts)?;
         looks::round(&mut looking, counts)?;
+        carried::round(&mut carrying, counts)?;
         rounds += 1;
     }
     println!(

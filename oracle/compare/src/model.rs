@@ -23,6 +23,7 @@ pub fn answer(input: &Input) -> Ours {
         Kind::LookRun => look_run(input),
         Kind::LookByte => look_byte(input),
         Kind::LookMessage => look_message(input),
+        Kind::Carries => carries(input),
         _ => rewrite(input),
     }
 }
@@ -497,6 +498,36 @@ fn look_message(input: &Input) -> Ours {
         &input.bytes,
         input.numbers[1],
     )
+}
+
+/// Whether a message carries a payload, with a group and a stream id: the bytes of its packets, one after the other, are compared. The
+/// place of one that differs is that of its packet. Nothing is written.
+fn carries(input: &Input) -> Ours {
+    let refused = |(number, place): Refusal| Ours {
+        values: vec![0],
+        ..Ours::refused(number, place, &input.words)
+    };
+    if let Err(refusal) = check(&SYSEX8, &input.words, input.numbers[0]) {
+        return refused(refusal);
+    }
+    if input.numbers[1] > 15 {
+        return refused((16, 0));
+    }
+    let message = input.message();
+    let named = [group(message[0]), stream_id(message[0])].map(u64::from);
+    if input.numbers[1..] != named {
+        return refused((26, 0));
+    }
+    let carried = SYSEX8.payload(message);
+    if carried == input.bytes {
+        return written(vec![0], 0, input.words.clone());
+    }
+    let differs = |&index: &usize| carried[index] != input.bytes[index];
+    let place = match (0..carried.len().min(input.bytes.len())).find(differs) {
+        Some(index) => find_byte(message, index as u64).map_or(0, |(at, _)| at),
+        None => 0,
+    };
+    refused((26, place as u64))
 }
 
 /// Byte stream to SysEx7. Between F0 and F7 a real-time byte, F8 to FF, is passed over, and one of 80 to F7 is refused;

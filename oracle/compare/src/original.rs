@@ -1,5 +1,5 @@
 //! The original, called on the same inputs.
-use crate::answers::{End, Field, Input, Kind, Theirs, ENDED};
+use crate::answers::{End, Field, Input, Kind, Theirs, ENDED, OTHER};
 use crate::layout::as_values;
 use midi2::inside::{self, BitOps};
 use midi2::sysex7::{self, Sysex7};
@@ -63,6 +63,7 @@ pub fn answer(input: &Input) -> Theirs {
         Kind::SpliceLent | Kind::PayloadLent => splice_lent(input),
         Kind::Stream => stream(input),
         Kind::Needed => needed(input),
+        Kind::Carries => carries(input),
         Kind::Origin | Kind::LookRun | Kind::LookByte | Kind::LookMessage => {
             unreachable!("the original has no such call")
         }
@@ -340,6 +341,21 @@ fn splice_lent(input: &Input) -> Theirs {
         match done {
             Ok(()) => End::Done,
             Err(_) => End::Overflow,
+        }
+    })
+}
+
+/// Whether a message carries a payload. The original has no such call: the message alone is taken, and what it reads of it is compared.
+fn carries(input: &Input) -> Theirs {
+    collect(|values| match Sysex8::try_from(input.message()) {
+        Err(error) => End::Refused(error.0),
+        Ok(message) => {
+            let named = [u8::from(message.group()), message.stream_id()].map(u64::from);
+            if !message.payload().eq(input.bytes.iter().copied()) || input.numbers[1..] != named {
+                return End::Refused(OTHER);
+            }
+            values.push(0);
+            End::Done
         }
     })
 }

@@ -104,6 +104,7 @@ mod calls {
         pub fn latchbeacon_sysex7_check(words: Words, lent: usize, length: usize) -> Message;
         pub fn latchbeacon_sysex8_byte(words: Words, lent: usize, length: usize, index: usize) -> Number;
         pub fn latchbeacon_sysex8_payload(words: Words, lent: usize, length: usize, bytes: *mut u8, room: usize) -> Number;
+        pub fn latchbeacon_sysex8_carries(words: Words, lent: usize, length: usize, payload: Bytes, size: usize, group: u8, id: u8) -> Number;
         pub fn latchbeacon_sysex8_set_group(words: WordsOut, lent: usize, length: usize, group: u8) -> Number;
         pub fn latchbeacon_sysex8_set_stream_id(words: WordsOut, lent: usize, length: usize, id: u8) -> Number;
         pub fn latchbeacon_sysex8_set_byte(words: WordsOut, lent: usize, length: usize, index: usize, value: u8) -> Number;
@@ -150,6 +151,7 @@ pub fn answer(input: &Input) -> Ours {
         Kind::LookRun => look_run(input),
         Kind::LookByte => look_byte(input),
         Kind::LookMessage => look_message(input),
+        Kind::Carries => carries(input),
         _ => splice(input),
     }
 }
@@ -582,6 +584,45 @@ pub fn look_spliced(input: &Input, more: usize) -> ((u8, u64), Vec<u32>) {
 pub fn byte(words: &[u32], index: usize) -> Ours {
     let (lent, length) = (words.len(), words.len());
     whole(unsafe { latchbeacon_sysex8_byte(words.as_ptr(), lent, length, index) })
+}
+
+/// Whether the message in the first words carries the payload of an input, with its group and stream id.
+fn carries_in(words: &mut [u32], length: usize, input: &Input) -> Number {
+    let mut payload = input.bytes.clone();
+    let answer = unsafe {
+        latchbeacon_sysex8_carries(
+            words.as_mut_ptr(),
+            words.len(),
+            length,
+            payload.as_mut_ptr(),
+            payload.len(),
+            input.numbers[1] as u8,
+            input.numbers[2] as u8,
+        )
+    };
+    assert_eq!(payload, input.bytes, "the payload lent");
+    answer
+}
+
+/// Whether a message carries a payload, with the value of the answer, also where it refuses, and the words lent after it.
+fn carries(input: &Input) -> Ours {
+    let mut words = input.words.clone();
+    let answer = carries_in(&mut words, number(input, 0), input);
+    Ours {
+        words,
+        ..whole(answer)
+    }
+}
+
+/// The same of a copy that is packed before: the refusal and its place.
+pub fn carries_packed(input: &Input) -> (u8, u64) {
+    let (mut words, length) = (input.words.clone(), number(input, 0));
+    let packed = unsafe { latchbeacon_sysex8_repack(words.as_mut_ptr(), words.len(), length) };
+    let answer = match packed.refusal {
+        0 => carries_in(&mut words, packed.value, input),
+        _ => packed,
+    };
+    (answer.refusal, answer.place as u64)
 }
 
 /// Byte stream to SysEx7.

@@ -19,6 +19,11 @@ impl Random {
         Random(seed ^ 1 << 62)
     }
 
+    /// Another generator for the same seed, for payloads that a message may carry.
+    pub fn carrying(seed: u64) -> Random {
+        Random(seed ^ 1 << 61)
+    }
+
     /// The next 64 bits.
     pub fn bits(&mut self) -> u64 {
         self.0 = self.0.wrapping_add(0x9E37_79B9_7F4A_7C15);

@@ -39,7 +39,7 @@ fn kind_number(kind: Kind) -> Option<u64> {
         Kind::Stream => 0x28,
         Kind::Needed => 0x29,
         Kind::Steps8 | Kind::Steps7 | Kind::Check7 | Kind::Origin => return None,
-        Kind::LookRun | Kind::LookByte | Kind::LookMessage => return None,
+        Kind::LookRun | Kind::LookByte | Kind::LookMessage | Kind::Carries => return None,
     })
 }
 

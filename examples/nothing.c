@@ -39,6 +39,7 @@ static void call_on_no_words(void) {
     print_number("byte", latchbeacon_sysex8_byte(NULL, 0, 0, 0));
     print_number("look byte", latchbeacon_sysex8_look_byte(NULL, 0, 0, NULL, 0, NULL, 0, 0));
     print_number("payload", latchbeacon_sysex8_payload(NULL, 0, 0, NULL, 0));
+    print_number("carries", latchbeacon_sysex8_carries(NULL, 0, 0, NULL, 0, 0, 0));
     print_number("set group", latchbeacon_sysex8_set_group(NULL, 0, 0, 0));
     print_number("set stream id", latchbeacon_sysex8_set_stream_id(NULL, 0, 0, 0));
     print_number("set byte", latchbeacon_sysex8_set_byte(NULL, 0, 0, 0, 0));
@@ -58,6 +59,7 @@ static void call_on_no_bytes(void) {
     latchbeacon_number look = latchbeacon_sysex8_look_byte(words, 4, 4, NULL, 0, NULL, 0, 1);
     latchbeacon_change splice = latchbeacon_sysex8_splice(words, 4, 4, 0, 1, NULL, 0);
     print_number("payload", latchbeacon_sysex8_payload(words, 4, 4, NULL, 0));
+    print_number("carries", latchbeacon_sysex8_carries(words, 4, 4, NULL, 0, 2, 7));
     print_number("look byte", look);
     print_answer("splice all", splice_all.refusal, splice_all.place, splice_all.length);
     print_answer("origin", origin.refusal, origin.place, origin.index);
@@ -65,6 +67,7 @@ static void call_on_no_bytes(void) {
     latchbeacon_change set_payload = latchbeacon_sysex8_set_payload(words, 4, 4, NULL, 0);
     print_answer("set payload", set_payload.refusal, set_payload.place, set_payload.length);
     print_number("payload", latchbeacon_sysex8_payload(words, 4, 4, NULL, 0));
+    print_number("carries", latchbeacon_sysex8_carries(words, 4, 4, NULL, 0, 2, 7));
 }
 
 /* A payload, a list of edits, replacement bytes: each of them, and all, without items. */
@@ -100,13 +103,16 @@ static void call_on_no_stream(void) {
 }
 
 /* The numbers of an edit are its replacement too: 0, 1 and 8 put eight bytes, those of the first number, in the place of one. When it
- * is looked at they are the payload as well: the lowest byte of its second number then stands at 15. */
+ * is looked at they are the payload as well: the lowest byte of its second number then stands at 15. A message of one byte is its own
+ * payload: that byte is the lowest of its first word. */
 static void share_a_buffer(void) {
     const size_t numbers[3] = {0, 1, 8};
+    const uint32_t own[4] = {0x52020741, 0, 0, 0};
     uint32_t words[4] = {0x52030741, 0x42000000, 0, 0};
     latchbeacon_change change = latchbeacon_sysex8_splice_all(words, 4, 4, numbers, 3, (const uint8_t *)numbers, 8);
     const uint8_t *bytes = (const uint8_t *)numbers;
     print_number("look byte, shared", latchbeacon_look_byte(bytes, sizeof numbers, numbers, 3, bytes, 8, 15));
+    print_number("carries, shared", latchbeacon_sysex8_carries(own, 4, 4, (const uint8_t *)own, 1, 2, 7));
     print_answer("splice all, shared", change.refusal, change.place, change.length);
     printf("words %08X %08X %08X %08X\n", (unsigned)words[0], (unsigned)words[1], (unsigned)words[2], (unsigned)words[3]);
 }

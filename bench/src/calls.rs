@@ -33,6 +33,24 @@ pub fn reads(bytes: &[u8], words: &[u32], floor: f64) {
     row("byte in the middle", size, 0.15, times, floor);
 }
 
+/// Whether a message carries a payload: packed, and uneven. The original has no such call; what it reads of a message is compared.
+pub fn carrying(bytes: &[u8], words: &[u32], floor: f64) {
+    let other: Vec<u8> = bytes.iter().copied().take(bytes.len() - 1).chain([!bytes[bytes.len() - 1]]).collect();
+    for (call, words) in [("carries the payload", words), ("carries the payload, uneven", &inputs::uneven(bytes))] {
+        assert!(port::carries(words, bytes) && original::carries(words, bytes));
+        assert!(!port::carries(words, &other) && !original::carries(words, &other));
+        let times = Times::of(
+            || _ = black_box(port::carries(black_box(words), black_box(bytes))),
+            || _ = black_box(original::carries(black_box(words), black_box(bytes))),
+            || {
+                original::check(black_box(words));
+                _ = black_box(original::carries(black_box(words), black_box(bytes)))
+            },
+        );
+        row(call, bytes.len(), 0.10, times, floor);
+    }
+}
+
 /// A call that sets something of a message: at an index, to a value.
 type Set = fn(&mut [u32], usize, u8);
 

@@ -71,6 +71,19 @@ fn list(side: Side, words: &[u32], size: usize, count: usize) -> Box<dyn FnMut()
     })
 }
 
+/// Whether a message carries a payload: packed, or uneven.
+fn carries(side: Side, bytes: Vec<u8>, words: Vec<u32>) -> Box<dyn FnMut()> {
+    Box::new(move || {
+        if side == Side::Checked {
+            original::check(black_box(&words));
+        }
+        _ = black_box(match side {
+            Side::Port => port::carries(black_box(&words), black_box(&bytes)),
+            _ => original::carries(black_box(&words), black_box(&bytes)),
+        })
+    })
+}
+
 /// The origin of a payload octet in the middle, which only ours answers.
 fn origin(side: Side, words: &[u32], size: usize) -> Option<Box<dyn FnMut()>> {
     let (words, (edits, bytes)) = (words.to_vec(), inputs::edits(size));
@@ -177,6 +190,8 @@ pub fn run(arguments: &[String]) -> bool {
         "same_size" => Some(splices(side, &words, middle, false)),
         "there_and_back_at_0" => Some(splices(side, &words, 0, true)),
         "same_size_at_0" => Some(splices(side, &words, 0, false)),
+        "carries" => Some(carries(side, bytes, words)),
+        "carries_uneven" => Some(carries(side, bytes.clone(), inputs::uneven(&bytes))),
         "packing" => Some(packing(side, &bytes, false)),
         "packing_copy" => Some(packing(side, &bytes, true)),
         "list_copy" => Some(list(side, &words, size, 0)),

@@ -20,6 +20,7 @@ fn run(size: usize) {
     original::check(&words);
     let floor = table::memmove(&words);
     calls::reads(&bytes, &words, floor);
+    calls::carrying(&bytes, &words, floor);
     calls::setters(&words, size, floor);
     calls::splices(&bytes, &words, (size / 2).saturating_sub(4), "", floor);
     calls::splices(&bytes, &words, 0, ", at 0", floor);

@@ -25,6 +25,13 @@ pub fn byte(words: &[u32], index: usize) -> u8 {
     inside::sysex8(words).payload().nth(index).expect("a byte")
 }
 
+/// Whether the payload, through its iterator, is the bytes, and the group and the stream id are 0.
+#[inline(never)]
+pub fn carries(words: &[u32], bytes: &[u8]) -> bool {
+    let message = inside::sysex8(words);
+    message.group() == u4::new(0) && message.stream_id() == 0 && message.payload().eq(bytes.iter().copied())
+}
+
 /// `set_byte`.
 #[inline(never)]
 pub fn set_byte(words: &mut [u32], index: usize, value: u8) {

@@ -56,6 +56,15 @@ extern "C" {
     fn latchbeacon_sysex8_check(words: Words, lent: usize, length: usize) -> Message;
     fn latchbeacon_sysex8_byte(words: Words, lent: usize, length: usize, index: usize) -> Number;
     fn latchbeacon_sysex8_payload(words: Words, lent: usize, length: usize, bytes: *mut u8, bytes_lent: usize) -> Number;
+    fn latchbeacon_sysex8_carries(
+        words: Words,
+        lent: usize,
+        length: usize,
+        payload: *const u8,
+        payload_size: usize,
+        group: u8,
+        id: u8,
+    ) -> Number;
     fn latchbeacon_sysex8_set_group(words: Room, lent: usize, length: usize, group: u8) -> Number;
     fn latchbeacon_sysex8_set_stream_id(words: Room, lent: usize, length: usize, id: u8) -> Number;
     fn latchbeacon_sysex8_set_byte(words: Room, lent: usize, length: usize, index: usize, value: u8) -> Number;
@@ -134,6 +143,13 @@ pub fn byte(words: &[u32], index: usize) -> u8 {
     let answer = unsafe { latchbeacon_sysex8_byte(words.as_ptr(), words.len(), words.len(), index) };
     assert!(answer.refusal == 0);
     answer.value as u8
+}
+
+/// Whether the message carries the bytes, with group 0 and stream id 0.
+pub fn carries(words: &[u32], bytes: &[u8]) -> bool {
+    let (address, lent) = (words.as_ptr(), words.len());
+    let answer = unsafe { latchbeacon_sysex8_carries(address, lent, lent, bytes.as_ptr(), bytes.len(), 0, 0) };
+    answer.refusal == 0
 }
 
 /// Sets a byte.

@@ -170,7 +170,7 @@ fn the_longest_payload() {
     let words = message(GROUP.into(), ID.into(), &bytes[..MOST_BYTES], &[13; MOST_WORDS / 4]);
     let view = View::check(&words, MOST_WORDS).unwrap();
     assert_eq!(view.carries(&bytes[..MOST_BYTES], GROUP, ID), YES);
-    for size in [0, 1, MOST_BYTES - 1, MOST_BYTES + 1, 65_536, 1_000_000] {
+    for size in [0, 1, MOST_BYTES - 1, MOST_BYTES + 1, 65_536, MOST_BYTES + 65_536, 1_000_000] {
         assert_eq!(view.carries(&bytes[..size], GROUP, ID), other(0));
     }
     for byte in [MOST_BYTES, MOST_BYTES - 1, MOST_BYTES - 13, MOST_BYTES - 14, 13, 12, 0] {

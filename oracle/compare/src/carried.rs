@@ -181,6 +181,24 @@ fn groups_and_ids(counts: &mut Counts) -> Result<(), String> {
     Ok(())
 }
 
+/// Payloads that begin with the message's own and are longer: by 1 to 300 bytes, around 65,536, and by 1,048,576.
+fn longer_payloads(counts: &mut Counts) -> Result<(), String> {
+    for size in [0, 3, 27] {
+        let bytes = payload(size);
+        let words = SYSEX8.message(
+            GROUP,
+            ID,
+            &[0, size / 3, size / 3, size - size / 3 * 2, 0],
+            &bytes,
+        );
+        for more in (1..=300).chain(65_500..=65_540).chain([1 << 20]) {
+            let longer = [&bytes[..], &vec![0; more]].concat();
+            ask(&question(&words, 20, &longer, GROUP, ID), counts)?;
+        }
+    }
+    Ok(())
+}
+
 /// Messages in as many words as may be lent, and in one more; with each bit of their first words changed; and with every length of the
 /// words lent and above. Each is asked for its payload and others, with its group and stream id, others, and what is no group.
 fn faulty_messages(counts: &mut Counts) -> Result<(), String> {
@@ -213,6 +231,7 @@ fn faulty_messages(counts: &mut Counts) -> Result<(), String> {
 pub fn exhaustive(counts: &mut Counts) -> Result<(), String> {
     all_packings(counts)?;
     groups_and_ids(counts)?;
+    longer_payloads(counts)?;
     faulty_messages(counts)
 }
 

@@ -282,6 +282,8 @@ fn errors_are_clear() {
         assert!(text.starts_with(&format!("refusal {} ({}) at ", refusal.number(), refusal.name())), "{text}");
         assert!(text.ends_with(&format!("8: {}", refusal.meaning())), "{text}");
     }
+    let text = "refusal 26 (Other) at word 8: the message has another group, stream id or payload than the one named";
+    assert_eq!(Error { refusal: Refusal::Other, place: 8 }.to_string(), text);
     let later = Error { refusal: Refusal::from_number(200), place: 0 };
     assert_eq!(later.to_string(), "refusal 200 (Unknown) at 0: a refusal that these bindings do not know");
     let boxed: Box<dyn std::error::Error + Send + Sync> = Box::new(later);

@@ -316,10 +316,12 @@ fn list(random: &mut Random, size: usize, most: usize) -> (Vec<u64>, Vec<u8>) {
     (list, bytes)
 }
 
-/// A position in the result, or around its end, or far past it.
+/// A position in the result, or around its end, or far past it. The bytes that a spoiled list removes may be more than a number holds.
 fn position(random: &mut Random, size: usize, list: &[u64], bytes: usize) -> u64 {
     let edits = list.chunks_exact(3);
-    let removed: u64 = edits.map(|edit| edit[1].saturating_sub(edit[0])).sum();
+    let removed = edits
+        .map(|edit| edit[1].saturating_sub(edit[0]))
+        .fold(0, u64::wrapping_add);
     let new = ((size + bytes) as u64).saturating_sub(removed);
     match random.below(8) {
         0 => (new + random.below(3) as u64).saturating_sub(1),

@@ -389,44 +389,43 @@ fn origins_are_those_of_the_header() {
     assert_eq!(header_arms(header), arms_of(ORIGINS, "Origin", "LATCHBEACON_ORIGIN_"));
 }
 
-// A type, a name, an order, a missing and an extra declaration, a missing layout: each of these changes fails the comparison.
+// Changes of the declarations: a type, a name, an order, a missing and an extra declaration, a missing layout.
+const CHANGES: [(&str, &str); 29] = [
+    ("fn latchbeacon_bit(word: u32,", "fn latchbeacon_bit(word: u64,"),
+    ("fn latchbeacon_bit(word", "fn latchbeacon_bits(word"),
+    ("index: usize, value: bool)", "value: bool, index: usize)"),
+    ("fn latchbeacon_sysex8_words_needed(size: usize) -> usize;", ""),
+    ("fn latchbeacon_growth", "fn latchbeacon_more(word: u32) -> usize;\n    fn latchbeacon_growth"),
+    ("fn latchbeacon_sysex8_payload(words: *const u32", "fn latchbeacon_sysex8_payload(words: *mut u32"),
+    ("payload: *const u8,\n", "payload: *mut u8,\n"),
+    ("payload_size: usize, group: u8, id: u8) -> Number;", "payload_size: usize, id: u8, group: u8) -> Number;"),
+    ("numbers: *const usize", "numbers: *const u32"),
+    ("bytes_lent: usize, octet: usize) -> Origin;", "octet: usize, bytes_lent: usize) -> Origin;"),
+    ("    pub(crate) number: usize,", "    pub(crate) number: u8,"),
+    ("    pub(crate) source: u8,", "    pub(crate) source: usize,"),
+    ("    pub(crate) start: usize,\n    pub(crate) end: usize,", "    pub(crate) end: usize,\n    pub(crate) start: usize,"),
+    ("replacement_size: usize, position: usize) -> Run;", "position: usize, replacement_size: usize) -> Run;"),
+    ("fn latchbeacon_look_byte(payload: *const u8", "fn latchbeacon_look_byte(payload: *mut u8"),
+    ("bytes_lent: usize, position: usize) -> Number;", "position: usize, bytes_lent: usize) -> Number;"),
+    ("number: usize, position: usize) -> Number;", "position: usize, number: usize) -> Number;"),
+    ("pending_length: usize, done_first: bool) -> Range;", "pending_length: usize, done_first: bool) -> EditGrowth;"),
+    ("bytes: *mut u8, bytes_lent: usize) -> Number", "bytes: *mut u8) -> Number"),
+    ("    pub(crate) from: usize,\n    pub(crate) to: usize,", "    pub(crate) to: usize,\n    pub(crate) from: usize,"),
+    ("    ended: bool,", "    ended: u8,"),
+    ("    pub(crate) delta: bool,", "    pub(crate) delta: u8,"),
+    ("    pub(crate) words: usize,\n    pub(crate) steps: usize,", "    pub(crate) steps: usize,\n    pub(crate) words: usize,"),
+    ("store_size: usize, number: usize) -> Dump;", "number: usize, store_size: usize) -> Dump;"),
+    ("number: usize, words: *mut u32", "number: usize, words: *const u32"),
+    ("latchbeacon_store_mark(store: *mut u8", "latchbeacon_store_mark(store: *const u8"),
+    ("    fn latchbeacon_store_collect(store: *mut u8, store_size: usize) -> Number;\n", ""),
+    ("    pub(crate) id: u8,\n", ""),
+    ("#[repr(C)]\npub(crate) struct Change", "pub(crate) struct Change"),
+];
+
+// Each of these changes fails the comparison.
 #[test]
 fn a_change_of_a_declaration_is_seen() {
-    let changes = [
-        ("fn latchbeacon_bit(word: u32,", "fn latchbeacon_bit(word: u64,"),
-        ("fn latchbeacon_bit(word", "fn latchbeacon_bits(word"),
-        ("index: usize, value: bool)", "value: bool, index: usize)"),
-        ("fn latchbeacon_sysex8_words_needed(size: usize) -> usize;", ""),
-        ("fn latchbeacon_growth", "fn latchbeacon_more(word: u32) -> usize;\n    fn latchbeacon_growth"),
-        ("fn latchbeacon_sysex8_payload(words: *const u32", "fn latchbeacon_sysex8_payload(words: *mut u32"),
-        ("payload: *const u8,\n", "payload: *mut u8,\n"),
-        ("payload_size: usize, group: u8, id: u8) -> Number;", "payload_size: usize, id: u8, group: u8) -> Number;"),
-        ("numbers: *const usize", "numbers: *const u32"),
-        ("bytes_lent: usize, octet: usize) -> Origin;", "octet: usize, bytes_lent: usize) -> Origin;"),
-        ("    pub(crate) number: usize,", "    pub(crate) number: u8,"),
-        ("    pub(crate) source: u8,", "    pub(crate) source: usize,"),
-        ("    pub(crate) start: usize,\n    pub(crate) end: usize,", "    pub(crate) end: usize,\n    pub(crate) start: usize,"),
-        ("replacement_size: usize, position: usize) -> Run;", "position: usize, replacement_size: usize) -> Run;"),
-        ("fn latchbeacon_look_byte(payload: *const u8", "fn latchbeacon_look_byte(payload: *mut u8"),
-        ("bytes_lent: usize, position: usize) -> Number;", "position: usize, bytes_lent: usize) -> Number;"),
-        ("number: usize, position: usize) -> Number;", "position: usize, number: usize) -> Number;"),
-        ("pending_length: usize, done_first: bool) -> Range;", "pending_length: usize, done_first: bool) -> EditGrowth;"),
-        ("bytes: *mut u8, bytes_lent: usize) -> Number", "bytes: *mut u8) -> Number"),
-        ("    pub(crate) from: usize,\n    pub(crate) to: usize,", "    pub(crate) to: usize,\n    pub(crate) from: usize,"),
-        ("    ended: bool,", "    ended: u8,"),
-        ("    pub(crate) delta: bool,", "    pub(crate) delta: u8,"),
-        (
-            "    pub(crate) words: usize,\n    pub(crate) steps: usize,",
-            "    pub(crate) steps: usize,\n    pub(crate) words: usize,",
-        ),
-        ("store_size: usize, number: usize) -> Dump;", "number: usize, store_size: usize) -> Dump;"),
-        ("number: usize, words: *mut u32", "number: usize, words: *const u32"),
-        ("latchbeacon_store_mark(store: *mut u8", "latchbeacon_store_mark(store: *const u8"),
-        ("    fn latchbeacon_store_collect(store: *mut u8, store_size: usize) -> Number;\n", ""),
-        ("    pub(crate) id: u8,\n", ""),
-        ("#[repr(C)]\npub(crate) struct Change", "pub(crate) struct Change"),
-    ];
-    for (declared, changed) in changes {
+    for (declared, changed) in CHANGES {
         assert!(BINDINGS.contains(declared), "no such declaration: {declared}");
         assert!(!differences(HEADER, &BINDINGS.replacen(declared, changed, 1)).is_empty(), "not seen: {changed}");
     }

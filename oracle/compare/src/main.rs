@@ -29,9 +29,48 @@ use options::{stop, Options};
 use random::Random;
 use std::time::{Duration, Instant};
 
-/// Runs the exhaustive part, the largest messages, then rounds of random inputs until the time is over. Inputs for ours
-/// alone, byte streams with real-time bytes, looks, and payloads carried have numbers of their own, so that the others are the
-/// same with and without them.
+/// The numbers that random inputs are made of. Those for ours alone, byte streams with real-time bytes, looks, and payloads
+/// carried have numbers of their own, so that the others are the same with and without them.
+struct Numbers {
+    random: Random,
+    apart: Random,
+    clocked: Random,
+    looking: Random,
+    carrying: Random,
+}
+
+impl Numbers {
+    /// The numbers of a seed.
+    fn new(seed: u64) -> Numbers {
+        Numbers {
+            random: Random::new(seed),
+            apart: Random::new(!seed),
+            clocked: Random::clocked(seed),
+            looking: Random::looking(seed),
+            carrying: Random::carrying(seed),
+        }
+    }
+
+    /// The largest messages.
+    fn largest(&mut self, counts: &mut Counts) -> Result<(), String> {
+        sampled::largest(&mut self.random, counts)?;
+        sampled::largest_origins(&mut self.apart, counts)?;
+        sampled::longest_streams(&mut self.clocked, counts)?;
+        looks::largest(&mut self.looking, counts)?;
+        carried::largest(&mut self.carrying, counts)
+    }
+
+    /// One round of random inputs.
+    fn round(&mut self, counts: &mut Counts) -> Result<(), String> {
+        sampled::round(&mut self.random, counts)?;
+        sampled::origins(&mut self.apart, counts)?;
+        sampled::clocked_streams(&mut self.clocked, counts)?;
+        looks::round(&mut self.looking, counts)?;
+        carried::round(&mut self.carrying, counts)
+    }
+}
+
+/// Runs the exhaustive part, the largest messages, then rounds of random inputs until the time is over.
 fn compare_all(options: &Options, counts: &mut Counts) -> Result<(), String> {
     let start = Instant::now();
     exhaustive::run(counts)?;
@@ -42,16 +81,8 @@ fn compare_all(options: &Options, counts: &mut Counts) -> Result<(), String> {
         counts.total(),
         start.elapsed().as_secs_f64()
     );
-    let mut random = Random::new(options.seed);
-    let mut apart = Random::new(!options.seed);
-    let mut clocked = Random::clocked(options.seed);
-    let mut looking = Random::looking(options.seed);
-    let mut carrying = Random::carrying(options.seed);
-    sampled::largest(&mut random, counts)?;
-    sampled::largest_origins(&mut apart, counts)?;
-    sampled::longest_streams(&mut clocked, counts)?;
-    looks::largest(&mut looking, counts)?;
-    carried::largest(&mut carrying, counts)?;
+    let mut numbers = Numbers::new(options.seed);
+    numbers.largest(counts)?;
     println!(
         "largest messages done, {:.1} s",
         start.elapsed().as_secs_f64()
@@ -61,11 +92,7 @@ fn compare_all(options: &Options, counts: &mut Counts) -> Result<(), String> {
         Some(most) => rounds < most,
         None => start.elapsed() < Duration::from_secs(options.seconds),
     } {
-        sampled::round(&mut random, counts)?;
-        sampled::origins(&mut apart, counts)?;
-        sampled::clocked_streams(&mut clocked, counts)?;
-        looks::round(&mut looking, counts)?;
-        carried::round(&mut carrying, counts)?;
+        numbers.round(counts)?;
         rounds += 1;
     }
     println!(

@@ -35,7 +35,7 @@
 //! Where only some bytes of a patched dump are asked for, nothing needs to be written: module [`look`] lends them run by run,
 //! [`Message::byte_after`] and [`Store::byte`] answer one of them.
 //!
-//! Whether the packets that somebody else made carry a payload, in whatever packing, is said by [`View::carries`]. A no names the packet
+//! Whether the packets that somebody else made carry a payload, in whatever packing, is said by [`sysex8::carries`]. A no names the packet
 //! at fault.
 //!
 //! # Limits

@@ -112,8 +112,8 @@ impl<'a> View<'a> {
     /// Whether the message carries this payload, with this group and stream id, in whatever packing: packets of any sizes, empty ones
     /// too, whatever their unused octets hold. `Ok` is a yes, and a no is the error.
     ///
-    /// The payload may be of any size. For words that somebody else packed, and that are not checked yet, it is
-    /// `View::check(words, length)?.carries(payload, group, id)`: then the check's refusals come first.
+    /// The payload may be of any size. Words that somebody else packed, and that are not checked yet, are asked at once by
+    /// [`sysex8::carries`](crate::sysex8::carries).
     ///
     /// # Errors
     ///

@@ -1,5 +1,5 @@
-//! SysEx8: single packets, and what the fewest-packet form takes. Messages are [`Message`](crate::Message) and
-//! [`View`](crate::View).
+//! SysEx8: single packets, what the fewest-packet form takes, and whether words that somebody else packed carry a payload. Messages are
+//! [`Message`](crate::Message) and [`View`](crate::View).
 
 use crate::error::Error;
 use crate::ffi;
@@ -32,6 +32,29 @@ pub const EMPTY: [u32; 4] = [0x5001_0000, 0, 0, 0];
 /// ```
 pub fn words_needed(size: usize) -> usize {
     ffi::sysex8_words_needed(size)
+}
+
+/// Whether words that somebody else packed are one message that carries this payload, with this group and stream id, in whatever
+/// packing. `Ok` is a yes, and a no is the error. The words need not be checked before: this is
+/// [`View::check`](crate::View::check) and [`View::carries`](crate::View::carries) in one call.
+///
+/// # Errors
+///
+/// The check's refusals, 1 to 12, then those of [`View::carries`](crate::View::carries).
+///
+/// ```
+/// use latchbeacon::{sysex8, Error, Refusal};
+///
+/// // Payload A0 A1 A2 with group 1 and stream id 5, in packets of two, no and one bytes.
+/// let mut words = [0x5113_05A0, 0xA100_0000, 0, 0, 0x5121_0500, 0, 0, 0, 0x5132_05A2, 0, 0, 0];
+/// assert_eq!(sysex8::carries(&words, 12, &[0xA0, 0xA1, 0xA2], 1, 5), Ok(()));
+/// assert_eq!(sysex8::carries(&words, 12, &[0xA0, 0xA1, 0xFF], 1, 5), Err(Error { refusal: Refusal::Other, place: 8 }));
+///
+/// words[8] = 0x5122_05A2; // the last packet does not end the message
+/// assert_eq!(sysex8::carries(&words, 12, &[0xA0, 0xA1, 0xFF], 16, 5), Err(Error { refusal: Refusal::End, place: 8 }));
+/// ```
+pub fn carries(words: &[u32], length: usize, payload: &[u8], group: u8, id: u8) -> Result<(), Error> {
+    ffi::sysex8_carries(words, length, payload, group, id)
 }
 
 /// A SysEx8 packet, copied from the first 4 words of a slice.

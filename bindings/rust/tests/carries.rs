@@ -4,7 +4,7 @@
 mod common;
 
 use common::{message, Numbers};
-use latchbeacon::{Error, Message, Refusal, View, MOST_BYTES, MOST_WORDS};
+use latchbeacon::{sysex8, Error, Message, Refusal, View, MOST_BYTES, MOST_WORDS};
 
 const YES: Result<(), Error> = Ok(());
 const GROUP: u8 = 5;
@@ -15,7 +15,7 @@ fn other(place: usize) -> Result<(), Error> {
     Err(Error { refusal: Refusal::Other, place })
 }
 
-// Asks a view, and a message that has a packet more behind it; both answer the same, and no word changes.
+// Asks a view, and a message that has a packet more behind it, checked before or not; all answer the same, and no word changes.
 fn asked(words: &[u32], payload: &[u8], group: u8, id: u8) -> Result<(), Error> {
     let answer = View::check(words, words.len()).unwrap().carries(payload, group, id);
     let behind = [words[words.len() - 4], 0x0101_0101, 0, 0];
@@ -23,6 +23,7 @@ fn asked(words: &[u32], payload: &[u8], group: u8, id: u8) -> Result<(), Error> 
     let message = Message::check(&mut buffer, words.len()).unwrap();
     assert_eq!(message.carries(payload, group, id), answer);
     assert_eq!((message.words(), &message.buffer()[words.len()..]), (words, &behind[..]));
+    assert_eq!(sysex8::carries(message.buffer(), words.len(), payload, group, id), answer);
     answer
 }
 
@@ -179,4 +180,28 @@ fn the_longest_payload() {
         assert_eq!(view.carries(&bytes, GROUP, ID), other(place));
     }
     assert_eq!(view.carries(&bytes, GROUP, ID ^ 1), other(0));
+}
+
+// Words that are not checked before: the check's refusals come first, also before a group above 15, and their places are the check's.
+#[test]
+fn unchecked_words() {
+    let bytes = [1, 2, 3];
+    let good = message(GROUP.into(), ID.into(), &bytes, &[1, 0, 2]);
+    let refused = |words: &[u32], length, group| {
+        sysex8::carries(words, length, &bytes, group, ID).map_err(|error| (error.number(), error.place))
+    };
+    assert_eq!(refused(&good, 12, GROUP), Ok(()));
+    assert_eq!(refused(&vec![0; MOST_WORDS + 1], 4, 16), Err((1, 0)));
+    assert_eq!(refused(&good, 13, 16), Err((2, 0)));
+    assert_eq!(refused(&good, 3, 16), Err((3, 0)));
+    assert_eq!(refused(&good, 9, 16), Err((4, 0)));
+    assert_eq!(refused(&good, 4, 16), Err((6, 0)));
+    assert_eq!(refused(&good, 8, 16), Err((9, 4)));
+    for (bits, number) in [(0x1000_0000, 5), (0x0010_0000, 9), (0x0003_0000, 10), (0x0100_0000, 11), (0x0000_0100, 12)] {
+        let mut words = good.clone();
+        words[8] ^= bits;
+        assert_eq!(refused(&words, 12, 16), Err((number, 8)));
+    }
+    assert_eq!(refused(&good, 12, 16), Err((16, 0)));
+    assert_eq!(refused(&good, 12, GROUP ^ 1), Err((26, 0)));
 }

@@ -11,10 +11,11 @@ use borrow.Author.Tests.{lt-ltb, le-ltb, eq-eqb, ne-eqb, eqb-true, not-false}
 use Rattle.refusal.specs.Answer.{gives, refused, pass, _▷_, guard}
 use Rattle.refusal.proofs.Laws.{guard-passed, pass-both, given-passes}
 use Rattle.ump.specs.Packet.{Shape, sysex8, groupAt, idAt, payloadAt, joined, payload}
-use Rattle.ump.specs.Check.{firstWhere, same, sweep, check, checked, payloadOf, Summary, summary, Valid}
+use Rattle.ump.specs.Check.{firstWhere, same, sweep, check, checked, payloadOf, Summary, summary}
 use Rattle.ump.proofs.Joined.{joined-around}
 use Rattle.ump.proofs.Checks.{sweep-pass, pass-sweep, or-left, or-right, same-refl, same-eq, valid-passes, passes-valid}
 use Rattle.ump.proofs.Splicing.{group-fits}
+use Rattle.message.proofs.Checked.{Taken, taken}
 use Rattle.carries.specs.Carries.{unlike, otherBytes, carries}
 use Rattle.carries.specs.Senders.{Carries}
 use Rattle.carries.proofs.Likeness.{like-front, like-is, unlike-append}
@@ -131,23 +132,19 @@ module _ (s : Shape) (words : List ℕ) (len : ℕ) (bytes : List ℕ) (group : 
 pub ids-differ : {a b : ℕ} {x : List ℕ} → x ≡ a ∷ [] → (a ≡ b → ⊥) → same x (b ∷ []) ≡ false
 ids-differ {a} {b} e n = rw (e, ne-eqb a b n)
 
--- ---- what the check told
+-- ---- what the check told: that it passed, and of what group, stream id and size
 
 pub record Told (words : List ℕ) (len group id size : ℕ) : Type 0 where
-  pub passes : check sysex8 words len ≡ pass
-  pub valid : Valid sysex8 words len
+  pub taken : Taken sysex8 words len size
   pub group-is : groupAt sysex8 words 0 ≡ group
   pub id-is : idAt sysex8 words 0 ≡ id ∷ []
-  pub sized : length (payloadOf sysex8 words len) ≡ size
 
 pub told : (words : List ℕ) (len : ℕ) {group id size all : ℕ} → checked sysex8 words len ≡ gives (summary group (id ∷ []) size all) → Told words len group id size
 unfolding checked
 told words len e =
     let g = given-passes (check sysex8 words len) e in
     record {
-      passes = g .0;
-      valid = passes-valid sysex8 words len (g .0);
+      taken = taken sysex8 words len e;
       group-is = ap (λ (m : Summary). m .group) (g .1);
       id-is = ap (λ (m : Summary). m .id) (g .1);
-      sized = ap (λ (m : Summary). m .size) (g .1);
     }

@@ -15,7 +15,7 @@ use Rattle.ump.specs.Check.{check}
 use Rattle.ump.proofs.Sizes.{words-pos}
 use Rattle.ump.proofs.Checks.{valid-passes}
 use Rattle.ump.proofs.Message.{payloadOf-packs, group-of-packs, id-of-packs, packs-valid}
-use Rattle.ump.proofs.Packings.{valid-laid-out, valid-packs}
+use Rattle.ump.proofs.ValidPacks.{valid-laid-out, valid-packs}
 use Rattle.carries.specs.Carries.{carries}
 use Rattle.carries.specs.Senders.{Carrier, Carries, Packing, Reason, not-valid, no-group, other, SameSaid, both-yes, both-no, Judged, PromisedCarrier}
 use Rattle.carries.proofs.Carrying.{yes-only, yes-if}

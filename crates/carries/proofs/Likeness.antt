@@ -11,13 +11,11 @@ use lib.Seq.{drop-cons, drop-drop}
 use borrow.Author.Tests.{eq-eqb, ne-eqb, eqb-true, eqb-false, not-false}
 use Rattle.ump.specs.Word.{octet, word, octets, wordsOf, Below}
 use Rattle.ump.specs.Packet.{sysex8, sizeAt, payloadAt}
+use Rattle.ump.proofs.First.{never}
 use Rattle.ump.proofs.Checks.{or-left, or-right}
 use Rattle.ump.proofs.Words.{octet0, octet1, octet2, octet3, wordsOf-octets, below-getD}
 use Rattle.ump.proofs.Bytes.{length-payloadAt, getD-payloadAt}
 use Rattle.carries.specs.Carries.{unlike}
-
-pub never : {A : Type 0} → false ≡ true → A
-never e = let z : _≡_ {A = ℕ} 0 1 = cc in absurd (omega arith)
 
 -- a list and one that begins with it
 pub like-front : (xs ys : List ℕ) → unlike xs (xs ++ ys) ≡ false

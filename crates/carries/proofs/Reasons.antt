@@ -12,12 +12,12 @@ use Rattle.refusal.proofs.Laws.{never-both, guard-passed}
 use Rattle.ump.specs.Packet.{Shape, groupAt, idAt, payloadAt, joined, payload}
 use Rattle.ump.specs.Check.{firstWhere, same, sweep, check, payloadOf}
 use Rattle.ump.proofs.Joined.{joined-add}
-use Rattle.ump.proofs.First.{Side, under, over, side, first-at, first-before}
+use Rattle.ump.proofs.First.{never, Side, under, over, side, first-at, first-before}
 use Rattle.ump.proofs.Checks.{same-refl, same-eq, or-left, or-right}
 use Rattle.carries.specs.Carries.{otherBytes, carries}
 use Rattle.carries.specs.Senders as senders
 use Rattle.carries.specs.Senders.{FirstOther, Other, group-differs, id-differs, byte-differs, sizes-differ, Reason}
-use Rattle.carries.proofs.Likeness.{never, like-at, Differ, differ, unlike-append}
+use Rattle.carries.proofs.Likeness.{like-at, Differ, differ, unlike-append}
 use Rattle.carries.proofs.Carrying.{none-differ, carried}
 
 -- ---- the packet that is named

@@ -13,6 +13,9 @@ pub is-false : (b : Bool) → T (not b) → b ≡ false
 is-false true t = absurd t
 is-false false t = refl
 
+pub never : {A : Type 0} → false ≡ true → A
+never e = let z : _≡_ {A = ℕ} 0 1 = cc in absurd (omega arith)
+
 -- a number is below another or it is not
 pub data Side (m n : ℕ) : Type 0 where
   under : m < n → ltb m n ≡ true → Side m n

@@ -13,7 +13,7 @@ pub mod Replace
 pub mod Replay
 pub mod Signed
 pub mod Splicing
-pub mod Packings
+pub mod ValidPacks
 pub mod Moving
 pub mod Bytes
 pub mod Positions

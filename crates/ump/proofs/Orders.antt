@@ -2,11 +2,9 @@
 -- Assumes nothing.
 use mathlib.Core.Path.{_≡_, refl}
 use mathlib.Core.Bool.{Bool, true, false, _||_}
-use mathlib.Core.List.{List, [], _∷_, _++_}
+use mathlib.Core.List.{List, [], _∷_}
 use Prim.Native.Nat.{ℕ, _≤_}
-use native.Mathlib.Omega.{arith}
 use lib.Dec.{eqb, ltb, lit<, lit≤}
-use lib.ListN.{replicate}
 use borrow.Author.Tests.{eqb-true}
 use Rattle.refusal.specs.Answer.{gives}
 use Rattle.ump.specs.Word.{octets, wordsOf, Below}
@@ -14,10 +12,11 @@ use Rattle.ump.specs.Packet.{sysex8, sizeOf, payloadAt, joined, payload}
 use Rattle.ump.specs.Packing.{statusFor, frame, packsAt, packs, packetsFor, pack}
 use Rattle.ump.specs.Check.{firstWhere, badType, badStatus, badCount, badGroup, badId, checkPackets, check}
 use Rattle.ump.specs.Splice.{Spliced, stored, rewritten, splice}
-use Rattle.ump.specs.Edits.{Edit, Patch, patchAt, endBefore, total, moveEdit}
-use Rattle.ump.specs.Worker.{Calls, Held, finished, Works, rests, goes-on, Fits, bytesOf, start}
+use Rattle.ump.specs.Edits.{Edit, patchAt, endBefore, total, moveEdit}
+use Rattle.ump.specs.Worker.{Calls, Held, finished, Works, rests, goes-on}
 use Rattle.ump.specs.Meets.{movedEdit, PlainAnswers}
 use Rattle.ump.specs.Orders.{patches, BehindDiffers}
+use Rattle.ump.proofs.First.{never}
 use Rattle.ump.proofs.NotEmpty.{both}
 
 -- two edits one after the other, by calls that have the outcomes of the definitions
@@ -28,14 +27,11 @@ in-turn : {calls : Calls (List ℕ) Edit} → PlainAnswers sysex8 calls → {byt
     → splice sysex8 between (change .length) (edit .from) (edit .to) (bytes j) ≡ (gives second, left)
     → Works calls bytes held (i ∷ j ∷ []) (finished left (second .length))
 in-turn {calls} answers {held = held} i j {edit = edit} b c e m f =
-    goes-on (answers .can-splice b e) (λ k t. go k (eqb k j) refl t) (goes-on {edit = λ k. edit} (answers .can-splice c f) (λ k t. none t) rests)
+    goes-on (answers .can-splice b e) (λ k t. go k (eqb k j) refl t) (goes-on {edit = λ k. edit} (answers .can-splice c f) (λ k t. never t) rests)
   where
-    none : {A : Type 0} → false ≡ true → A
-    none t = let z : _≡_ {A = ℕ} 0 1 = cc in absurd (omega arith)
-
     go : (k : ℕ) (b : Bool) → eqb k j ≡ b → (b || false) ≡ true → calls .Moves (held .edit i) (held .edit k) (ltb i k) (gives edit)
     go k true q t = rw (eqb-true k j q) (answers .can-move m)
-    go k false q t = none t
+    go k false q t = never t
 
 -- It is so by any calls that have the outcomes of the definitions.
 pub behind-differs : {calls : Calls (List ℕ) Edit} → PlainAnswers sysex8 calls → BehindDiffers calls

@@ -1,4 +1,6 @@
 // What the exported calls answer, and how the answers of the libraries become that.
+#![tactic(auto)]
+
 ghost use Rattle.std.specs.Prelude.{◌≡◌};
 ghost use Rattle.refusal.specs.Answer.{gives};
 ghost use Rattle.refusal.specs.Meaning.{fault_of, stored_meaning, byte_meaning};

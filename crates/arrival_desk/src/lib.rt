@@ -1,5 +1,7 @@
 // A table with the words and the output that are lent with it, and calls on them (02, T-07) whose answers are compared: for the programs of
 // samples.
+#![tactic(auto)]
+
 pub mod many;
 
 use equality::words::same_words;

@@ -1,4 +1,6 @@
 // Samples of interleaved streams (02, T-07), through the public call: the most words. A line for each, `ok` or `WRONG`.
+#![tactic(auto)]
+
 use compare::report;
 
 mod limits;

@@ -1,5 +1,7 @@
 // Samples of interleaved streams (02, T-07), through the public call: the parts of the words and the output, the packet reader's refusals,
 // other ports, and any table. A line for each, `ok` or `WRONG`.
+#![tactic(auto)]
+
 use compare::report;
 
 mod parts;

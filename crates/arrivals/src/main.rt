@@ -1,5 +1,7 @@
 // Samples of interleaved streams (02, T-07), through the public call: messages that interleave, slots, and what each kind of packet does. A
 // line for each, `ok` or `WRONG`.
+#![tactic(auto)]
+
 use compare::report;
 
 mod interleaved;

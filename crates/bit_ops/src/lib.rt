@@ -1,5 +1,7 @@
 // Word fields: read and set bit, crumb, nibble, septet, octet, word of a 32-bit word. Field 0 is the most significant.
 // Each call refuses (Field, place 0) exactly when the field index, or the value for the field, is too big.
+#![tactic(auto)]
+
 ghost use Rattle.std.specs.Prelude.{◌≡◌, ◌+◌, ◌*◌, ◌^◌, ◌≤◌, ◌<◌};
 ghost use Rattle.refusal.specs.Meaning.{byte_meaning};
 ghost use Rattle.ump.specs.Word.{bit_field, crumb_field, nibble_field, septet_field, octet_field, word_field, part, with_part, get_field, set_field};

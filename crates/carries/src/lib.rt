@@ -1,4 +1,6 @@
 // Whether lent words are one valid SysEx8 message, in any packing, that carries a payload with a group and a stream id.
+#![tactic(auto)]
+
 ghost use Rattle.std.specs.Prelude.{◌≡◌, [], ◌∷◌, ◌+◌, ◌≤◌, length, drop};
 ghost use Rattle.refusal.specs.Answer.{refused};
 ghost use Rattle.refusal.specs.Number.{number_of};

@@ -1,4 +1,6 @@
 // The delta chain (02, T-02): dumps, whole or as edits of another, in a store of bytes; one of them described. Crate restore restores it.
+#![tactic(auto)]
+
 pub mod edits;
 pub mod measuring;
 

@@ -1,5 +1,7 @@
 // Samples of the delta chain (02, T-02), run through the public calls: a line for each, `ok` or `WRONG`. Those of Format and Twice are
 // program formats', those of many dumps, long walks and large payloads are program chain_limits'.
+#![tactic(auto)]
+
 mod descriptions;
 mod dumps;
 mod edits;

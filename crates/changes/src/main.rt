@@ -1,5 +1,7 @@
 // The samples of document 01 that change a message, and the refusals of the calls that pack one, run through the public calls: a line for
 // each, `ok` or `WRONG`.
+#![tactic(auto)]
+
 use compare::report;
 
 mod edits;

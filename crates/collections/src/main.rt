@@ -1,5 +1,7 @@
 // Samples of collecting a store of dumps (02, T-13), run through the public calls: a line for each, `ok` or `WRONG`. Each store that is
 // collected is collected again. Those of many dumps are programs collection_shapes' and collection_limits'.
+#![tactic(auto)]
+
 mod freeing;
 mod keeping;
 

@@ -1,4 +1,6 @@
 // Answers compared with what document 01 says, and the line of a sample.
+#![tactic(auto)]
+
 ghost use Rattle.std.specs.Prelude.{◌≡◌, [], ◌∷◌, length, replicate};
 ghost use Rattle.refusal.specs.Answer.{gives, refused};
 ghost use Rattle.refusal.specs.Number.{number_of};

@@ -1,5 +1,7 @@
 // Edits of a payload: growth, moving a pending edit past a done one, all edits of a list at once, and where an octet or a byte then
 // comes from.
+#![tactic(auto)]
+
 ghost use Rattle.std.specs.Prelude.{◌≡◌, ◌≤◌};
 ghost use Rattle.ump.specs.Limits.{most_bytes};
 ghost use Rattle.ump.specs.Edits.{growth, bad_edit, moved_past, move_edit};

@@ -1,5 +1,7 @@
 // The layout of packets in words, each thing once: the fields of a first word, words and octets, the status by place, the bytes that a
 // count carries, the packets that a payload takes, and the limits. Each public call is total.
+#![tactic(auto)]
+
 ghost use Rattle.std.specs.Prelude.{◌≡◌, ◌+◌, ◌*◌, ◌%◌, ◌<◌};
 ghost use Rattle.ump.specs.Word.{nibble, octet, word as word_of, octet_field, shift, with_part};
 ghost use Rattle.ump.specs.Packet.{Shape, sysex8, sysex7, size_of};

@@ -1,4 +1,6 @@
 // The listing of a SysEx8 message: its bytes in, lines of text out.
+#![tactic(auto)]
+
 ghost use Rattle.std.specs.Prelude.{◌≡◌, ◌≤◌, length};
 ghost use Rattle.refusal.specs.Number.{number_of};
 ghost use Rattle.ump.specs.Limits.{most_words};

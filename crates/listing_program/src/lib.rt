@@ -1,4 +1,6 @@
 // The body of program sx8list: the message on standard input is listed on standard output.
+#![tactic(auto)]
+
 use libc::STDOUT_FILENO;
 use listing::Listed;
 use standard_input::Input;

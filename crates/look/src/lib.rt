@@ -1,5 +1,7 @@
 // Looking at bytes of an edited dump without restoring it (02, T-08): the run of one edit, lent and not copied, and one byte of a list of
 // edits, of a payload or of a message in packets.
+#![tactic(auto)]
+
 ghost use Rattle.std.specs.Prelude.{◌≡◌};
 ghost use Rattle.refusal.specs.Answer.{refused};
 ghost use Rattle.edit.specs.Meaning.{edit_meaning};

@@ -1,4 +1,6 @@
 // One byte of a dump of a store (02, T-08), without restoring the dump.
+#![tactic(auto)]
+
 mod looking;
 
 ghost use Rattle.std.specs.Prelude.{◌≡◌, suc, length};

@@ -1,5 +1,7 @@
 // Samples of one byte of an edited dump (02, T-08), through the public calls: a line for each, `ok` or `WRONG`. The runs of one edit are
 // program runs'.
+#![tactic(auto)]
+
 use compare::report;
 
 mod dumps;

@@ -1,5 +1,5 @@
 -- Wrong answers that the promises shut out, two of each call, on P2's and P5's messages. Assumes nothing.
-use mathlib.Core.Path.{◌≡◌}
+use mathlib.Core.Path.{◌≡◌, refl, ap, ◌∙◌}
 use mathlib.Core.List.{List, [], ◌∷◌, ◌++◌}
 use Prim.Native.Nat.{ℕ}
 use lib.ListN.{get_or}
@@ -12,7 +12,7 @@ use Rattle.refusal.specs.declared.ByteRead.TheVariants.{Value}
 use Rattle.refusal.specs.Tight.{ShutOut}
 use Rattle.refusal.proofs.Tight.{differ, told}
 use Rattle.ump.specs.Word.{octets}
-use Rattle.ump.specs.Packet.{size_of, payload_at, joined, payload}
+use Rattle.ump.specs.Packet.{sysex8, size_of, payload_at, joined, payload}
 use Rattle.ump.specs.Packing.{status_for}
 use Rattle.ump.specs.Check.{first_where, bad_type, bad_status, bad_count, bad_group, bad_id, status_number, check_packets, check, Summary, checked}
 use Rattle.ump.specs.Setters.{get_byte, copy_payload, packet_of, byte_in, store_byte, set_byte, on_heads, set_group, set_id}
@@ -129,14 +129,21 @@ id_first : ShutOut 1 id-kinds.ps id-kinds.r id.Post
 unfolding set_id on_heads check check_packets bad_type bad_status bad_count bad_group bad_id status_number first_where status_for
 id_first κs a x s w p = differ (word_in 4) tt (rw (w.0, w.1, w.2, w.3) at p)
 
+-- byte 2 set: the first packet's word stays, the last packet's has it
+set_stays : word_in 1 (set_byte sysex8 message5 12 2 0xEE) ≡ 0xA1000000
+unfolding set_byte store_byte packet_of byte_in check check_packets bad_type bad_status bad_count bad_group bad_id status_number first_where status_for payload payload_at size_of octets joined
+set_stays = refl
+
+set_there : word_in 8 (set_byte sysex8 message5 12 2 0xEE) ≡ 0x513205EE
+unfolding set_byte store_byte packet_of byte_in check check_packets bad_type bad_status bad_count bad_group bad_id status_number first_where status_for payload payload_at size_of octets joined
+set_there = refl
+
 -- byte 2, of the last packet, is set in the first packet, or is left
 set_in_first : ShutOut 1 set-kinds.ps set-kinds.r set.Post
     (λ κs a x s. (a.0.now ≡ message5) × (a.1.0 ≡ 12) × (a.1.1.0 ≡ 2) × (a.1.1.1.0 ≡ 0xEE)
     × (s.0.now ≡ 0x511305A0 ∷ 0xA1EE0000 ∷ 0 ∷ 0 ∷ (alone 0x51210500 ++ alone 0x513205A2)))
-unfolding set_byte store_byte packet_of byte_in check check_packets bad_type bad_status bad_count bad_group bad_id status_number first_where status_for payload payload_at size_of octets joined
-set_in_first κs a x s w p = differ (word_in 1) tt (rw (w.0, w.1, w.2, w.3, w.4) at p)
+set_in_first κs a x s w p = differ (λ n. n) tt (ap (word_in 1) (rw (w.0, w.1, w.2, w.3, w.4) at p) ∙ set_stays)
 
 set_left : ShutOut 1 set-kinds.ps set-kinds.r set.Post
     (λ κs a x s. (a.0.now ≡ message5) × (a.1.0 ≡ 12) × (a.1.1.0 ≡ 2) × (a.1.1.1.0 ≡ 0xEE) × (s.0.now ≡ message5))
-unfolding set_byte store_byte packet_of byte_in check check_packets bad_type bad_status bad_count bad_group bad_id status_number first_where status_for payload payload_at size_of octets joined
-set_left κs a x s w p = differ (word_in 8) tt (rw (w.0, w.1, w.2, w.3, w.4) at p)
+set_left κs a x s w p = differ (λ n. n) tt (ap (word_in 8) (rw (w.0, w.1, w.2, w.3, w.4) at p) ∙ set_there)

@@ -1,4 +1,6 @@
 // Single packets: reading one, a payload byte of it, setting its group; SysEx8 and SysEx7.
+#![tactic(auto)]
+
 ghost use Rattle.std.specs.Prelude.{◌≡◌, ◌+◌, ◌*◌, ◌≤◌, ◌<◌, length};
 ghost use Rattle.refusal.specs.Meaning.{stored_meaning, byte_meaning};
 ghost use Rattle.packet.specs.Meaning.{decided_meaning};

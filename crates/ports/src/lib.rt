@@ -1,4 +1,6 @@
 // Streams of two ports that interleave, on one table of 16 slots with an equal part of the lent words for each.
+#![tactic(auto)]
+
 ghost use Rattle.std.specs.Prelude.{◌≡◌, List, false, cond, ℕ, suc, ◌+◌, ◌≤◌, ◌<◌, eqb, ltb, length, drop};
 ghost use Rattle.std.proofs.Math.Seq.{paste};
 ghost use Rattle.refusal.specs.Answer.{refused};

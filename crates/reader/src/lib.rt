@@ -1,4 +1,6 @@
 // The payload reader of SysEx8: a cursor by value over lent words, and a reader that holds them.
+#![tactic(auto)]
+
 ghost use Rattle.std.specs.Prelude.{◌≡◌, ◌-◌, ◌/◌, ◌<◌, length};
 ghost use Rattle.ump.specs.Packet.{sysex8, size_at};
 ghost use Rattle.ump.specs.Reader.{nth as nth_of, bytes_remaining, reader as readerOf};

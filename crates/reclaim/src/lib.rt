@@ -1,4 +1,6 @@
 // Reclaiming the store of dumps (02, T-13): a dump is marked unwanted, and what no wanted dump rests on is freed.
+#![tactic(auto)]
+
 mod keeping;
 mod marking;
 mod moving;

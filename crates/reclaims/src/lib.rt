@@ -1,5 +1,7 @@
 // What marking and collecting answer to a store and leave of it, compared with what document 02 says (T-13). A store that is given is lent
 // to the calls as a copy.
+#![tactic(auto)]
+
 pub mod many;
 
 use compare::is_fault;

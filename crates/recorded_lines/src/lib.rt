@@ -1,5 +1,7 @@
 // Lines of recorded answers taken apart: KIND;WORDS;BYTES;NUMBERS;ANSWER, and ; with a text on the line of a listed difference.
 // Numbers are upper-case hex, those of a list one space apart; an empty field is an empty list.
+#![tactic(auto)]
+
 ghost use Rattle.std.specs.Prelude.{◌≡◌, true, ◌≤◌, length};
 ghost use Rattle.recorded_lines.specs.Fits.{FieldFits, RecordFits};
 

@@ -1,4 +1,6 @@
 // The refusals of documents 01 and 02, by name, and the answers that several calls share.
+#![tactic(auto)]
+
 ghost use Rattle.std.specs.Prelude.{◌≡◌};
 ghost use Rattle.refusal.specs.Number.{number_of};
 

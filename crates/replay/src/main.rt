@@ -1,4 +1,6 @@
 // Recorded answers on standard input, a line each, compared with ours: the number of each group and the lines that differ.
+#![tactic(auto)]
+
 mod input;
 mod record;
 mod reply;

@@ -1,4 +1,6 @@
 // What our calls on messages and byte streams answer to the input of a record, as numbers: kinds from 20 hex on of program replay.
+#![tactic(auto)]
+
 use replayed_packets::number;
 
 mod messages;

@@ -1,4 +1,6 @@
 // What our calls on word fields and single packets answer to the input of a record, as numbers: kinds 1 to 1F hex of program replay.
+#![tactic(auto)]
+
 pub mod answer;
 mod fields;
 mod packets;

@@ -1,4 +1,6 @@
 // Restoring a dump of the delta chain (02, T-02): its base first, then its edits.
+#![tactic(auto)]
+
 mod output;
 mod restoring;
 

@@ -5,6 +5,8 @@
 // Long here, since as many words are lent as a message may have. The argument is 1 to 64 decimal digits, and a number above 65,535 is
 // one that no dump has: Missing, `refused 24 at 0`. No argument, two, or one that is no such number: nothing is read or written, and a
 // line on standard error says how the program is called. A program of Rattle always ends with status 0.
+#![tactic(auto)]
+
 mod argument;
 pub mod output;
 

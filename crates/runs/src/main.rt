@@ -1,4 +1,6 @@
 // Samples of the run of one edit (02, T-08), through the public calls: a line for each, `ok` or `WRONG`.
+#![tactic(auto)]
+
 use compare::report;
 
 mod parts;

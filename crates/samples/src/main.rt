@@ -1,5 +1,7 @@
 // The samples of document 01 that read a message or a packet or list a message, run through the public calls: a line for each, `ok` or
 // `WRONG`.
+#![tactic(auto)]
+
 use compare::report;
 
 mod listings;

@@ -1,4 +1,6 @@
 // Samples of checking what other senders write (02, T-04), through the public call: a line for each, `ok` or `WRONG`.
+#![tactic(auto)]
+
 use compare::report;
 
 mod answer;

@@ -1,4 +1,6 @@
 // Standard input, read whole into the bytes lent. The bodies of sx8list and sx8restore read by it.
+#![tactic(auto)]
+
 ghost use Rattle.std.specs.Prelude.{◌≤◌, length};
 ghost use Rattle.standard_input.specs.Input.{bytes_read};
 

@@ -1,4 +1,6 @@
 // The store of dumps (02, T-02 and T-13): records in bytes, what may follow what, and the dumps that they make.
+#![tactic(auto)]
+
 pub mod finding;
 pub mod flags;
 pub mod format;

@@ -1,3 +1,5 @@
 // What the samples of the store of dumps share: what the calls answer to a store, and stores of many records.
+#![tactic(auto)]
+
 pub mod answers;
 pub mod patterns;

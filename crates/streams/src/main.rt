@@ -1,5 +1,7 @@
 // Samples of byte streams, those of document 01 and those of clock bytes inside a dump, run through the public call: a line for each,
 // `ok` or `WRONG`.
+#![tactic(auto)]
+
 use compare::report;
 
 mod clock;

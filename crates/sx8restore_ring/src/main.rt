@@ -1,4 +1,6 @@
 // The program on a ring of two: refused 25.
+#![tactic(auto)]
+
 fn main() {
     restorer::run();
 }

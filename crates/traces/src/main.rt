@@ -1,4 +1,6 @@
 // Samples of where an octet comes from, through the public call: a line for each, `ok` or `WRONG`.
+#![tactic(auto)]
+
 use compare::report;
 
 mod origins;

@@ -107,6 +107,7 @@ module _ {Lent Record : Type 0} {shape : Shape} (dense : Dense shape) {view : Vi
 
   -- 1. No call is refused: in no order, of all the edits or of some, does a worker stop at a refusal of a splice or of a move.
   pub no_refusal : (order : List ℕ) → Order (length patches) order → {number place : ℕ} → Works calls (bytes_of patches) held order (stopped number place) → ⊥
+  no_refusal [] o {number = number} {place = place} w = elim w [ ]
   no_refusal (i ∷ order) o w = ends i order o _ w
 
   has : (order : List ℕ) → Each patches order → {left : Lent} {len : ℕ} → Works calls (bytes_of patches) held order (finished left len)

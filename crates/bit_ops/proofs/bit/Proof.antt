@@ -10,20 +10,20 @@ use Rattle.bit_ops.proofs.Laws.{bit_tested}
 use Rattle.bit_ops.proofs.bit.Statement.{statement}
 use Rattle.bit_ops.proofs.bit.Tie as tie
 
-returns : tie.Need-returns
+returns : tie.Need-returns-then-index-lt32
 returns c =
-    let a = c.before.before.args in
+    let a = c.args in
     ap gives
     (rw c.part_of.ensures (bit_tested _ (part_lt a.word _ 1))
     ∙ ap (λ (low : ℕ). part a.word low 1) (sym (mul-one (31 - a.index))))
-    ∙ sym (get_given _ _ _ c.before.if1.true)
+    ∙ sym (get_given _ _ _ c.if-index-lt32.true)
 
-pub bit-spec : {M : Type 1} → statement M
-bit-spec =
+pub bit_spec : {M : Type 1} → statement M
+bit_spec =
     tie.close
     (tie.spec
     (λ c. search rules)
     (λ c. search rules)
     (λ c κs. search rules)
     returns
-    (λ c. sym (get_refused _ _ _ c.if1.false)))
+    (λ c. sym (get_refused _ _ _ c.if-index-lt32.false)))

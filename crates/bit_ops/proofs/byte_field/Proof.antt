@@ -10,21 +10,21 @@ use Rattle.bit_ops.proofs.Laws.{room}
 use Rattle.bit_ops.proofs.byte_field.Statement.{statement}
 use Rattle.bit_ops.proofs.byte_field.Tie as tie
 
-mul-part-of : tie.Need-overflow-mul-part-of
-mul-part-of c = omega (arith, room _ c.if1.true c.before.requires.0)
+mul-part-of : tie.Need-overflow_mul-count
+mul-part-of c = omega (arith, room _ c.if-index-count.true c.requires.0)
 
-part-of-requires : tie.Need-part-of-requires
-part-of-requires c κs = omega (arith, room _ c.if1.true c.before.requires.0)
+part-of-requires : tie.Need-part_of-requires
+part-of-requires c κs = omega (arith, room _ c.if-index-count.true c.requires.0)
 
-cast : tie.Need-overflow-cast-t14
+cast : tie.Need-overflow_cast-result
 cast c =
-    record { fits = rw c.part_of.ensures (lt_of_lt_of_le (part_lt _ _ _) (pow_mono c.before.before.requires.3)) }
+    record { fits = rw c.part_of.ensures (lt_of_lt_of_le (part_lt _ _ _) (pow_mono c.requires.3)) }
 
-returns : tie.Need-returns
-returns c = ap gives c.part_of.ensures ∙ sym (get_given _ _ _ c.before.if1.true)
+returns : tie.Need-returns-then-index-count
+returns c = ap gives c.part_of.ensures ∙ sym (get_given _ _ _ c.if-index-count.true)
 
-pub byte-field-spec : {M : Type 1} → statement M
-byte-field-spec =
+pub byte_field_spec : {M : Type 1} → statement M
+byte_field_spec =
     tie.close
     (tie.spec
     (λ c. search rules)
@@ -34,4 +34,4 @@ byte-field-spec =
     part-of-requires
     cast
     returns
-    (λ c. sym (get_refused _ _ _ c.if1.false)))
+    (λ c. sym (get_refused _ _ _ c.if-index-count.false)))

@@ -13,5 +13,5 @@ returns c =
     let x = a.word / 2 ^ a.low in
     ap (λ (n : ℕ). bit_and x (n - 1)) (one_shl a.width c.requires.1) ∙ and_mask x a.width
 
-pub part-of-spec : {M : Type 1} → statement M
-part-of-spec = tie.close (tie.spec (λ c. search rules) (λ c. search rules) (λ c. one_shl_pos _ c.requires.1) returns)
+pub part_of_spec : {M : Type 1} → statement M
+part_of_spec = tie.close (tie.spec (λ c. search rules) (λ c. search rules) (λ c. one_shl_pos _ c.requires.1) returns)

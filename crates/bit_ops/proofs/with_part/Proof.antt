@@ -9,7 +9,7 @@ returns c =
     let a = c.args in
     set_code a.width a.low a.word a.value c.requires.3 c.requires.0 c.requires.2 c.ranges.word.fits
 
-pub with-part-spec : {M : Type 1} → statement M
-with-part-spec =
+pub with_part_spec : {M : Type 1} → statement M
+with_part_spec =
     tie.close
     (tie.spec (λ c. search rules) (λ c. one_shl_pos _ c.requires.2) (λ c. search rules) (λ c. search rules) returns)

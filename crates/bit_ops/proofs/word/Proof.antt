@@ -6,8 +6,8 @@ use Rattle.ump.proofs.Fields.{get_given, get_refused}
 use Rattle.bit_ops.proofs.word.Statement.{statement}
 use Rattle.bit_ops.proofs.word.Tie as tie
 
-pub word-spec : {M : Type 1} → statement M
-word-spec =
+pub word_spec : {M : Type 1} → statement M
+word_spec =
     tie.close
     (tie.spec
     (λ c. search rules)
@@ -15,5 +15,5 @@ word-spec =
     (λ c. search rules)
     (λ c κs. search rules)
     (λ c. search rules)
-    (λ c. ap gives c.part_of.ensures ∙ sym (get_given _ _ _ c.before.if1.true))
-    (λ c. sym (get_refused _ _ _ c.if1.false)))
+    (λ c. ap gives c.part_of.ensures ∙ sym (get_given _ _ _ c.if-index-lt2.true))
+    (λ c. sym (get_refused _ _ _ c.if-index-lt2.false)))

@@ -4,15 +4,15 @@ use native.Mathlib.Omega.{arith}
 use Rattle.packet.proofs.kind_of.Statement.{statement}
 use Rattle.packet.proofs.kind_of.Tie as tie
 
-returns-5 : tie.Need-returns-5
-returns-5 c = rw (lt-ltb 3 c.before.args.status (omega arith))
+returns-5 : tie.Need-returns-in_default
+returns-5 c = rw (lt-ltb 3 c.args.status (omega arith))
 
-pub kind-of-spec : {M : Type 1} → statement M
-kind-of-spec =
+pub kind_of_spec : {M : Type 1} → statement M
+kind_of_spec =
     tie.close
     (tie.spec
-    (λ c. rw c.match.keys1)
-    (λ c. rw c.match.keys2)
-    (λ c. rw c.match.keys3)
-    (λ c. rw c.match.keys4)
+    (λ c. rw c.in-0.keys1)
+    (λ c. rw c.in-1.keys2)
+    (λ c. rw c.in-2.keys3)
+    (λ c. rw c.in-3.keys4)
     returns-5)

@@ -6,19 +6,19 @@ use Rattle.packet.specs.Steps.{payload_byte}
 use Rattle.packet.proofs.payload_byte.Statement.{statement}
 use Rattle.packet.proofs.payload_byte.Tie as tie
 
-returns : tie.Need-returns
+returns : tie.Need-returns-then-size-index
 unfolding payload_byte
-returns c = rw (le-leb _ _ c.if1.true)
+returns c = rw (le-leb _ _ c.if-size-index.true)
 
-cast-t17 : tie.Need-overflow-cast-t17
-cast-t17 c = let p = c.before.before.before.before.requires in record { fits = lt_of_lt_of_le (mod-lt _ p.2) p.3 }
+cast-t17 : tie.Need-overflow_cast-result-2
+cast-t17 c = let p = c.requires in record { fits = lt_of_lt_of_le (mod-lt _ p.2) p.3 }
 
-returns_2 : tie.Need-returns-2
+returns_2 : tie.Need-returns
 unfolding payload_byte
-returns_2 c = rw (lt-leb _ _ c.before.before.if1.false, c.octet-of.ensures)
+returns_2 c = rw (lt-leb _ _ c.if-size-index.false, c.octet_of.ensures)
 
-pub payload-byte-spec : {M : Type 1} → statement M
-payload-byte-spec =
+pub payload_byte_spec : {M : Type 1} → statement M
+payload_byte_spec =
     tie.close
     (tie.spec
     returns

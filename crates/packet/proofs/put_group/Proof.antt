@@ -8,19 +8,19 @@ use Rattle.packet.specs.Steps.{put_group}
 use Rattle.packet.proofs.put_group.Statement.{statement}
 use Rattle.packet.proofs.put_group.Tie as tie
 
-returns : tie.Need-returns
+returns : tie.Need-returns-then-group-gt15
 unfolding put_group
-returns c = rw (lt-ltb 15 _ c.if1.true)
+returns c = rw (lt-ltb 15 _ c.if-group-gt15.true)
 
-returns_2 : tie.Need-returns-2
+returns_2 : tie.Need-returns
 unfolding put_group
 returns_2 c =
-    let e = c.before.before in
-    let whole : e.before.before.args.group % 16 ≡ e.before.before.args.group = omega (arith, e.if1.false) in
-    rw (le-ltb 15 _ e.if1.false, c.with-group.ensures, whole)
+    let e = c in
+    let whole : e.args.group % 16 ≡ e.args.group = omega (arith, e.if-group-gt15.false) in
+    rw (le-ltb 15 _ e.if-group-gt15.false, c.with_group.ensures, whole)
 
-pub put-group-spec : {M : Type 1} → statement M
-put-group-spec =
+pub put_group_spec : {M : Type 1} → statement M
+put_group_spec =
     tie.close
     (tie.spec
     returns

@@ -12,58 +12,58 @@ use Rattle.message.proofs.Copying.{payload-part, copy_more, copy_size, copy_none
 use Rattle.message.proofs.bytes.copy_packets.Statement.{statement}
 use Rattle.message.proofs.bytes.copy_packets.Tie as tie
 
-abbrev invariant-loop : tie.invariant-loop
+abbrev invariant-loop : tie.invariant-loop-packet
 invariant-loop words packets bytes₀ packet₀ at₀ bytes packet at =
     (packet ≤ packets) × (at ≡ length (payload sysex8 words packet)) × (length bytes ≡ length bytes₀) × (bytes ≡ payload sysex8 words packet ++ drop at bytes₀)
 
-abbrev decreases-loop : tie.decreases-loop
+abbrev decreases-loop : tie.decreases-loop-packet
 decreases-loop words packets bytes₀ packet₀ at₀ bytes packet at = packets - packet
 
-at-packet : (c : tie.In-loop invariant-loop decreases-loop) → let d = c.before.before.before.before in
-    Here 4 c.before.loop.packet d.args.words.now
-at-packet c = here c.before.loop.packet c.before.before.before.before.requires.inside c.loop-test.true
+at-packet : (c : tie.In-loop-packet invariant-loop decreases-loop) → let d = c in
+    Here 4 c.loop-packet.packet d.args.words.now
+at-packet c = here c.loop-packet.packet c.requires.inside c.loop-packet-test.true
 
 -- the bytes of the packet
-piece : (c : tie.In-loop invariant-loop decreases-loop) → let d = c.before.before.before.before in
-    length (payload_at sysex8 d.args.words.now c.before.loop.packet) ≡ size_at sysex8 d.args.words.now c.before.loop.packet
+piece : (c : tie.In-loop-packet invariant-loop decreases-loop) → let d = c in
+    length (payload_at sysex8 d.args.words.now c.loop-packet.packet) ≡ size_at sysex8 d.args.words.now c.loop-packet.packet
 piece c = length-payload_at sysex8 _ _ (at-packet c).there
 
 -- the bytes that are left hold it
-room : (c : tie.In-loop invariant-loop decreases-loop) → let d = c.before.before.before.before in
-    c.before.loop.at + size_at sysex8 d.args.words.now c.before.loop.packet ≤ length c.before.loop.bytes
+room : (c : tie.In-loop-packet invariant-loop decreases-loop) → let d = c in
+    c.loop-packet.at + size_at sysex8 d.args.words.now c.loop-packet.packet ≤ length c.loop-packet.bytes
 room c =
-    let d = c.before.before.before.before in
-    let l = c.before.loop in
-    omega (arith, payload-part sysex8 d.args.words.now d.args.packets l.packet c.loop-test.true, piece c, l.invariant.1, l.invariant.2, d.requires.room)
+    let d = c in
+    let l = c.loop-packet in
+    omega (arith, payload-part sysex8 d.args.words.now d.args.packets l.packet c.loop-packet-test.true, piece c, l.invariant.1, l.invariant.2, d.requires.room)
 
-loop-again : tie.Need-loop-preserved invariant-loop decreases-loop
+loop-again : tie.Need-loop-packet-preserved invariant-loop decreases-loop
 loop-again c =
-    let k = c.before.before in
-    let o = k.before.before in
-    let l = o.before.loop in
-    let w = o.before.before.before.before.args.words.now in
-    let n : k.copy-packet.result ≡ length (payload sysex8 w (l.packet + 1)) =
-    k.copy-packet.ensures.0 ∙ rw (l.invariant.1, ← (piece o), add-one) (sym (copy_size sysex8 w l.packet))
+    let k = c in
+    let o = k in
+    let l = o.loop-packet in
+    let w = o.args.words.now in
+    let n : k.copy_packet-at.result ≡ length (payload sysex8 w (l.packet + 1)) =
+    k.copy_packet-at.ensures.0 ∙ rw (l.invariant.1, ← (piece o.before.before.before.before), add-one) (sym (copy_size sysex8 w l.packet))
     in
-    let e = copy_more sysex8 w _ l.bytes _ l.packet l.at (size_at sysex8 w l.packet) l.invariant.1 l.invariant.3 (sym (piece o)) k.copy-packet.ensures.1 in (
-      omega (arith, o.loop-test.true),
+    let e = copy_more sysex8 w _ l.bytes _ l.packet l.at (size_at sysex8 w l.packet) l.invariant.1 l.invariant.3 (sym (piece o.before.before.before.before)) k.copy_packet-at.ensures.1 in (
+      omega (arith, o.loop-packet-test.true),
       n,
       omega (arith, l.invariant.2),
-      rw (add-one, k.copy-packet.ensures.0) e,
+      rw (add-one, k.copy_packet-at.ensures.0) e,
     )
 
-pub copy-packets-spec : {M : Type 1} → statement M
-copy-packets-spec =
+pub copy_packets_spec : {M : Type 1} → statement M
+copy_packets_spec =
     tie.close
     (tie.spec
     invariant-loop
     decreases-loop
-    (λ c. (omega arith, rw (copy_none sysex8 c.before.before.args.words.now), refl, rw (copy_none sysex8 c.before.before.args.words.now)))
+    (λ c. (omega arith, rw (copy_none sysex8 c.args.words.now), refl, rw (copy_none sysex8 c.args.words.now)))
     (λ c κs. record { there = (at-packet c.before).there; few = omega (arith, (at-packet c.before).few); room = room c.before })
     (λ c. omega (arith, (at-packet c.before.before.before.before).number))
-    (λ c. omega (arith, c.before.before.before.before.loop-test.true))
+    (λ c. omega (arith, c.loop-packet-test.true))
     loop-again
-    (λ c. c.before.loop.invariant.2)
-    (λ c. let l = c.before.loop in
-    let e : l.packet ≡ c.before.before.before.before.args.packets = omega (arith, l.invariant.0, c.loop-test.false) in
+    (λ c. c.loop-packet.invariant.2)
+    (λ c. let l = c.loop-packet in
+    let e : l.packet ≡ c.args.packets = omega (arith, l.invariant.0, c.loop-packet-test.false) in
     rw (← e, ← l.invariant.1) l.invariant.3))

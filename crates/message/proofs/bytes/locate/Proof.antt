@@ -7,32 +7,32 @@ use Rattle.message.proofs.Sizes.{Seeking, seek_start, seek_below, seek_more, see
 use Rattle.message.proofs.bytes.locate.Statement.{statement}
 use Rattle.message.proofs.bytes.locate.Tie as tie
 
-abbrev invariant-loop : tie.invariant-loop
+abbrev invariant-loop : tie.invariant-loop-byte
 invariant-loop words packets size index packet₀ byte₀ packet byte = Seeking 4 1 words packets index packet byte
 
-abbrev decreases-loop : tie.decreases-loop
+abbrev decreases-loop : tie.decreases-loop-byte
 decreases-loop words packets size index packet₀ byte₀ packet byte = packets - packet
 
-below : (c : tie.At-loop invariant-loop decreases-loop) → c.loop.packet < c.before.before.args.packets
-below c = let p = c.before.before.requires in seek_below (below_size p.0 p.1) c.loop.invariant
+below : (c : tie.At-loop-byte invariant-loop decreases-loop) → c.loop-byte.packet < c.args.packets
+below c = let p = c.requires in seek_below (below_size p.0 p.1) c.loop-byte.invariant
 
-at : (c : tie.At-loop invariant-loop decreases-loop) → Here 4 c.loop.packet c.before.before.args.words.now
-at c = here c.loop.packet c.before.before.requires.0.inside (below c)
+at : (c : tie.At-loop-byte invariant-loop decreases-loop) → Here 4 c.loop-byte.packet c.args.words.now
+at c = here c.loop-byte.packet c.requires.0.inside (below c)
 
-pub locate-spec : {M : Type 1} → statement M
-locate-spec =
+pub locate_spec : {M : Type 1} → statement M
+locate_spec =
     tie.close
     (tie.spec
     invariant-loop
     decreases-loop
     (λ c. seek_start)
-    (λ c. (at c).ranges)
+    (λ c. (at c).fits)
     (λ c. (at c).bytes_fit)
     (λ c. (at c.before).index)
     (λ c κs. search rules)
     (λ c. search rules)
-    (λ c. let l = c.before.before in omega (arith, c.count_of.ensures, (l.before.before.requires.0.counted _ (below l)).0))
-    (λ c. let k = c.before in let l = k.before.before in seek_found l.loop.invariant (below l) k.count_of.ensures c.if1.true)
+    (λ c. let l = c in omega (arith, c.count_of.ensures, (l.requires.0.counted _ (below l.before.before)).0))
+    (λ c. let k = c in let l = k in seek_found l.loop-byte.invariant (below l.before.before.before) k.count_of.ensures c.if-byte-size.true)
     (λ c. omega (arith, (at c.before.before.before).number))
     (λ c. omega (arith, below c.before.before.before))
-    (λ c. let k = c.before in let l = k.before.before in seek_more l.loop.invariant (below l) k.count_of.ensures c.if1.false))
+    (λ c. let k = c in let l = k in seek_more l.loop-byte.invariant (below l.before.before.before) k.count_of.ensures c.if-byte-size.false))

@@ -5,8 +5,8 @@ use lib.ListN.{length-set}
 use Rattle.message.proofs.bytes.put_four.Statement.{statement}
 use Rattle.message.proofs.bytes.put_four.Tie as tie
 
-pub put-four-spec : {M : Type 1} → statement M
-put-four-spec =
+pub put_four_spec : {M : Type 1} → statement M
+put_four_spec =
     tie.close
     (tie.spec
     (λ c κs. search rules)
@@ -21,4 +21,4 @@ put-four-spec =
     (λ c. search rules)
     (λ c. simp length-set (omega arith))
     (λ c. search rules)
-    (λ c. rw (c.before.before.before.octet-of.ensures, c.before.before.octet-of2.ensures, c.before.octet-of3.ensures, c.octet-of4.ensures)))
+    (λ c. rw (c.octet_of.ensures, c.octet_of-2.ensures, c.octet_of-3.ensures, c.octet_of-4.ensures)))

@@ -5,13 +5,13 @@ use Rattle.message.proofs.Laws.{count_low, count_high, count_in}
 use Rattle.message.proofs.scan.at_fault.Statement.{statement}
 use Rattle.message.proofs.scan.at_fault.Tie as tie
 
-pub at-fault-spec : {M : Type 1} → statement M
-at-fault-spec =
+pub at_fault_spec : {M : Type 1} → statement M
+at_fault_spec =
     tie.close
     (tie.spec
-    (λ c. rw (ne_eqb _ _ c.if1.true))
+    (λ c. rw (ne_eqb _ _ c.if-word-mask.true))
     (λ c κs. search rules)
     (λ c. search rules)
-    (λ c. let k = c.before in rw (eq-eqb _ _ k.before.if1.false, ← k.count_of.ensures, count_low _ _ _ c.if2.true))
-    (λ c. let k = c.before.before in rw (eq-eqb _ _ k.before.if1.false, ← k.count_of.ensures, count_high _ _ _ c.before.if2.false c.if3.true))
-    (λ c. let k = c.before.before in rw (eq-eqb _ _ k.before.if1.false, ← k.count_of.ensures, count_in _ _ _ c.before.if2.false c.if3.false)))
+    (λ c. let k = c in rw (eq-eqb _ _ k.if-word-mask.false, ← k.count_of-count.ensures, count_low _ _ _ c.if-count-least.true))
+    (λ c. let k = c in rw (eq-eqb _ _ k.if-word-mask.false, ← k.count_of-count.ensures, count_high _ _ _ c.if-count-least.false c.if-most-count.true))
+    (λ c. let k = c in rw (eq-eqb _ _ k.if-word-mask.false, ← k.count_of-count.ensures, count_in _ _ _ c.if-count-least.false c.if-most-count.false)))

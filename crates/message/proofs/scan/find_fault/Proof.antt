@@ -5,66 +5,66 @@ use Rattle.message.proofs.Stages.{id_value, foreign_fault, step_fault, count_fau
 use Rattle.message.proofs.scan.find_fault.Statement.{statement}
 use Rattle.message.proofs.scan.find_fault.Tie as tie
 
-returns_2 : tie.Need-returns-2
+returns_2 : tie.Need-returns-then-step-packets
 returns_2 c s h failed =
-    let o = c.before.before in
-    let e = o.before in
-    rw c.status-refusal.ensures
-    (step_fault s _ _ h e.before.first_other.ensures e.if1.false o.first-out-of-step.ensures c.before.if2.true)
+    let o = c in
+    let e = o in
+    rw c.status_refusal.ensures
+    (step_fault s _ _ h e.first_other-foreign.ensures e.if-foreign-packets.false o.first_out_of_step-step.ensures c.if-step-packets.true)
 
-returns-3 : tie.Need-returns-3
+returns-3 : tie.Need-returns-then-count-packets
 returns-3 c s h failed =
-    let k = c.before in
-    let o = k.before.before in
-    let e = o.before in
-    count_fault s _ _ h e.before.first_other.ensures e.if1.false o.first-out-of-step.ensures k.before.if2.false k.first-bad-count.ensures c.if3.true
+    let k = c in
+    let o = k in
+    let e = o in
+    count_fault s _ _ h e.first_other-foreign.ensures e.if-foreign-packets.false o.first_out_of_step-step.ensures k.if-step-packets.false k.first_bad_count-count.ensures c.if-count-packets.true
 
-returns-4 : tie.Need-returns-4
+returns-4 : tie.Need-returns-then-group-packets
 returns-4 c s h failed =
-    let g = c.before in
-    let r = g.before.before.before in
-    let k = r.before in
-    let o = k.before.before in
-    let e = o.before in
-    group_fault s _ _ h e.before.first_other.ensures e.if1.false o.first-out-of-step.ensures k.before.if2.false k.first-bad-count.ensures r.if3.false
-    (rw g.before.Group-of.ensures at g.first-other2.ensures) c.if4.true
+    let g = c in
+    let r = g in
+    let k = r in
+    let o = k in
+    let e = o in
+    group_fault s _ _ h e.first_other-foreign.ensures e.if-foreign-packets.false o.first_out_of_step-step.ensures k.if-step-packets.false k.first_bad_count-count.ensures r.if-count-packets.false
+    (rw g.group_of-value.ensures at g.first_other-group.ensures) c.if-group-packets.true
 
-returns-5 : tie.Need-returns-5
+returns-5 : tie.Need-returns
 returns-5 c s h failed =
-    let i = c.before in
-    let l = i.before.before in
-    let g = l.before in
-    let r = g.before.before.before in
-    let k = r.before in
-    let o = k.before.before in
-    let e = o.before in
-    stream_fault s _ _ h e.before.first_other.ensures e.if1.false o.first-out-of-step.ensures k.before.if2.false k.first-bad-count.ensures r.if3.false
-    (rw g.before.Group-of.ensures at g.first-other2.ensures) l.if4.false (rw (i.id-of.ensures, id_value h.ids_are _) at c.first-other3.ensures) failed
+    let i = c in
+    let l = i in
+    let g = l in
+    let r = g in
+    let k = r in
+    let o = k in
+    let e = o in
+    stream_fault s _ _ h e.first_other-foreign.ensures e.if-foreign-packets.false o.first_out_of_step-step.ensures k.if-step-packets.false k.first_bad_count-count.ensures r.if-count-packets.false
+    (rw g.group_of-value.ensures at g.first_other-group.ensures) l.if-group-packets.false (rw (i.id_of.ensures, id_value h.ids_are _) at c.first_other.ensures) failed
 
-pub find-fault-spec : {M : Type 1} → statement M
-find-fault-spec =
+pub find_fault_spec : {M : Type 1} → statement M
+find_fault_spec =
     tie.close
     (tie.spec
     (λ c κs. search rules)
-    (λ c. found_fits _ c.before.before.before.requires.0 c.before.first_other.ensures)
-    (λ c s h failed. foreign_fault s _ _ h c.before.first_other.ensures c.if1.true)
+    (λ c. found_fits _ c.requires.0 c.first_other-foreign.ensures)
+    (λ c s h failed. foreign_fault s _ _ h c.first_other-foreign.ensures c.if-foreign-packets.true)
     (λ c κs. search rules)
     (λ c κs. search rules)
-    (λ c. found_fits _ c.before.before.before.before.before.before.requires.0 c.before.before.first-out-of-step.ensures)
+    (λ c. found_fits _ c.requires.0 c.first_out_of_step-step.ensures)
     returns_2
     (λ c κs. search rules)
-    (λ c. found_fits _ c.before.before.before.before.before.before.before.requires.0 c.before.first-bad-count.ensures)
+    (λ c. found_fits _ c.requires.0 c.first_bad_count-count.ensures)
     returns-3
-    (λ c. let p = c.before.before.before.before.before.before.before.before.requires in begins p.0 p.1)
+    (λ c. let p = c.requires in begins p.0 p.1)
     (λ c κs. search rules)
     (λ c. search rules)
     (λ c κs. search rules)
-    (λ c. found_fits _ c.before.before.before.before.before.before.before.before.before.before.before.requires.0 c.before.first-other2.ensures)
+    (λ c. found_fits _ c.requires.0 c.first_other-group.ensures)
     returns-4
-    (λ c. let p = c.before.before.before.before.before.before.before.before.before.before.before.before.requires in begins p.0 p.1)
+    (λ c. let p = c.requires in begins p.0 p.1)
     (λ c κs. search rules)
     (λ c. search rules)
     (λ c. search rules)
     (λ c κs. search rules)
-    (λ c. found_fits _ c.before.before.before.before.before.before.before.before.before.before.before.before.before.before.requires.0 c.first-other3.ensures)
+    (λ c. found_fits _ c.requires.0 c.first_other.ensures)
     returns-5)

@@ -9,33 +9,33 @@ use Rattle.message.proofs.Laws.{Here, here, count_low, count_high, count_in}
 use Rattle.message.proofs.scan.first_bad_count.Statement.{statement}
 use Rattle.message.proofs.scan.first_bad_count.Tie as tie
 
-abbrev invariant-loop : tie.invariant-loop
+abbrev invariant-loop : tie.invariant-loop-packet
 invariant-loop words stride packets least most packet₀ packet = Passed (count_out stride words least most) packets packet
 
-abbrev decreases-loop : tie.decreases-loop
+abbrev decreases-loop : tie.decreases-loop-packet
 decreases-loop words stride packets least most packet₀ packet = packets - packet
 
-below : (c : tie.Else1 invariant-loop decreases-loop) → c.before.loop.packet < c.before.before.before.args.packets
-below c = omega (arith, c.before.loop.invariant.within)
+below : (c : tie.Else-packet-packets invariant-loop decreases-loop) → c.loop-packet.packet < c.args.packets
+below c = omega (arith, c.loop-packet.invariant.within)
 
-at : (c : tie.Else1 invariant-loop decreases-loop) → let d = c.before.before.before in Here d.args.stride c.before.loop.packet d.args.words.now
-at c = here c.before.loop.packet c.before.before.before.requires (below c)
+at : (c : tie.Else-packet-packets invariant-loop decreases-loop) → let d = c in Here d.args.stride c.loop-packet.packet d.args.words.now
+at c = here c.loop-packet.packet c.requires (below c)
 
-pub first-bad-count-spec : {M : Type 1} → statement M
-first-bad-count-spec =
+pub first_bad_count_spec : {M : Type 1} → statement M
+first_bad_count_spec =
     tie.close
     (tie.spec
     invariant-loop
     decreases-loop
     (λ c. passed_zero)
-    (λ c. (at c).ranges)
+    (λ c. (at c).fits)
     (λ c. (at c).bytes_fit)
     (λ c. (at c.before).index)
     (λ c κs. search rules)
     (λ c. search rules)
     (λ c. omega (arith, below c.before.before.before.before))
     (λ c. omega (arith, below c.before.before.before.before))
-    (λ c. let k = c.before.before in let e = k.before.before in passed_one e.before.loop.invariant (below e) (rw (← k.count_of.ensures) (count_in _ _ _ c.before.if2.false c.if3.false)))
-    (λ c. sym c.if1.true ∙ passed_end c.before.loop.invariant (omega arith))
-    (λ c. let k = c.before in let e = k.before.before in passed_here e.before.loop.invariant (below e) (rw (← k.count_of.ensures) (count_low _ _ _ c.if2.true)))
-    (λ c. let k = c.before.before in let e = k.before.before in passed_here e.before.loop.invariant (below e) (rw (← k.count_of.ensures) (count_high _ _ _ c.before.if2.false c.if3.true))))
+    (λ c. let k = c in let e = k in passed_one e.loop-packet.invariant (below e.before.before.before.before) (rw (← k.count_of-count.ensures) (count_in _ _ _ c.if-count-least.false c.if-most-count.false)))
+    (λ c. sym c.if-packet-packets.true ∙ passed_end c.loop-packet.invariant (omega arith))
+    (λ c. let k = c in let e = k in passed_here e.loop-packet.invariant (below e.before.before.before) (rw (← k.count_of-count.ensures) (count_low _ _ _ c.if-count-least.true)))
+    (λ c. let k = c in let e = k in passed_here e.loop-packet.invariant (below e.before.before.before.before) (rw (← k.count_of-count.ensures) (count_high _ _ _ c.if-count-least.false c.if-most-count.true))))

@@ -10,32 +10,32 @@ use Rattle.message.proofs.Laws.{Here, here}
 use Rattle.message.proofs.scan.first_other.Statement.{statement}
 use Rattle.message.proofs.scan.first_other.Tie as tie
 
-abbrev invariant-loop : tie.invariant-loop
+abbrev invariant-loop : tie.invariant-loop-packet
 invariant-loop words stride packets low modulus value packet₀ packet = Passed (other_at stride words low modulus value) packets packet
 
-abbrev decreases-loop : tie.decreases-loop
+abbrev decreases-loop : tie.decreases-loop-packet
 decreases-loop words stride packets low modulus value packet₀ packet = packets - packet
 
-below : (c : tie.Else1 invariant-loop decreases-loop) → c.before.loop.packet < c.before.before.args.packets
-below c = omega (arith, c.before.loop.invariant.within)
+below : (c : tie.Else-packet-packets invariant-loop decreases-loop) → c.loop-packet.packet < c.args.packets
+below c = omega (arith, c.loop-packet.invariant.within)
 
-at : (c : tie.Else1 invariant-loop decreases-loop) → Here c.before.before.args.stride c.before.loop.packet c.before.before.args.words.now
-at c = here c.before.loop.packet c.before.before.requires.0 (below c)
+at : (c : tie.Else-packet-packets invariant-loop decreases-loop) → Here c.args.stride c.loop-packet.packet c.args.words.now
+at c = here c.loop-packet.packet c.requires.0 (below c)
 
-pub first-other-spec : {M : Type 1} → statement M
-first-other-spec =
+pub first_other_spec : {M : Type 1} → statement M
+first_other_spec =
     tie.close
     (tie.spec
     invariant-loop
     decreases-loop
     (λ c. passed_zero)
-    (λ c. (at c).ranges)
+    (λ c. (at c).fits)
     (λ c. (at c).bytes_fit)
     (λ c. (at c.before).index)
     (λ c. omega arith)
     (λ c. omega arith)
     (λ c. omega (arith, below c.before.before))
     (λ c. omega (arith, below c.before.before))
-    (λ c. passed_one c.before.before.before.loop.invariant (below c.before.before) (ap not (eq-eqb _ _ c.if2.false)))
-    (λ c. sym c.if1.true ∙ passed_end c.before.loop.invariant (omega arith))
-    (λ c. passed_here c.before.before.before.loop.invariant (below c.before.before) (ap not (ne_eqb _ _ c.if2.true))))
+    (λ c. passed_one c.loop-packet.invariant (below c.before.before) (ap not (eq-eqb _ _ c.if-words-stride.false)))
+    (λ c. sym c.if-packet-packets.true ∙ passed_end c.loop-packet.invariant (omega arith))
+    (λ c. passed_here c.loop-packet.invariant (below c.before.before) (ap not (ne_eqb _ _ c.if-words-stride.true))))

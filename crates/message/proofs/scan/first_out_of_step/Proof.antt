@@ -11,32 +11,32 @@ use Rattle.message.proofs.Laws.{Here, here}
 use Rattle.message.proofs.scan.first_out_of_step.Statement.{statement}
 use Rattle.message.proofs.scan.first_out_of_step.Tie as tie
 
-abbrev invariant-loop : tie.invariant-loop
+abbrev invariant-loop : tie.invariant-loop-packet
 invariant-loop words stride packets packet₀ packet = Passed (out_of_step stride words packets) packets packet
 
-abbrev decreases-loop : tie.decreases-loop
+abbrev decreases-loop : tie.decreases-loop-packet
 decreases-loop words stride packets packet₀ packet = packets - packet
 
-below : (c : tie.Else1 invariant-loop decreases-loop) → c.before.loop.packet < c.before.before.before.args.packets
-below c = omega (arith, c.before.loop.invariant.within)
+below : (c : tie.Else-packet-packets invariant-loop decreases-loop) → c.loop-packet.packet < c.args.packets
+below c = omega (arith, c.loop-packet.invariant.within)
 
-at : (c : tie.Else1 invariant-loop decreases-loop) → let d = c.before.before.before in Here d.args.stride c.before.loop.packet d.args.words.now
-at c = here c.before.loop.packet c.before.before.before.requires (below c)
+at : (c : tie.Else-packet-packets invariant-loop decreases-loop) → let d = c in Here d.args.stride c.loop-packet.packet d.args.words.now
+at c = here c.loop-packet.packet c.requires (below c)
 
-pub first-out-of-step-spec : {M : Type 1} → statement M
-first-out-of-step-spec =
+pub first_out_of_step_spec : {M : Type 1} → statement M
+first_out_of_step_spec =
     tie.close
     (tie.spec
     invariant-loop
     decreases-loop
     (λ c. passed_zero)
-    (λ c. (at c).ranges)
+    (λ c. (at c).fits)
     (λ c. (at c).bytes_fit)
     (λ c. (at c.before).index)
     (λ c κs. search rules)
     (λ c κs. search rules)
     (λ c. omega (arith, below c.before.before.before.before))
     (λ c. omega (arith, below c.before.before.before.before))
-    (λ c. let f = c.before in let k = f.before in let e = k.before.before in passed_one e.before.loop.invariant (below e) (ap not (eq-eqb _ _ (sym k.status-of.ensures ∙ c.if2.false ∙ f.status-for.ensures))))
-    (λ c. sym c.if1.true ∙ passed_end c.before.loop.invariant (omega arith))
-    (λ c. let f = c.before in let k = f.before in let e = k.before.before in passed_here e.before.loop.invariant (below e) (ap not (ne_eqb _ _ (rw (k.status-of.ensures, f.status-for.ensures) at c.if2.true)))))
+    (λ c. let f = c in let k = f in let e = k in passed_one e.loop-packet.invariant (below e.before.before.before.before) (ap not (eq-eqb _ _ (sym k.status_of.ensures ∙ c.if-status_of-status_for.false ∙ f.status_for.ensures))))
+    (λ c. sym c.if-packet-packets.true ∙ passed_end c.loop-packet.invariant (omega arith))
+    (λ c. let f = c in let k = f in let e = k in passed_here e.loop-packet.invariant (below e.before.before.before.before) (ap not (ne_eqb _ _ (rw (k.status_of.ensures, f.status_for.ensures) at c.if-status_of-status_for.true)))))

@@ -6,22 +6,22 @@ use Rattle.message.proofs.Bounds.{some_packet}
 use Rattle.message.proofs.scan.packets_of.Statement.{statement}
 use Rattle.message.proofs.scan.packets_of.Tie as tie
 
-whole : tie.Need-returns-5
+whole : tie.Need-returns
 whole c =
-    let e = c.before in
+    let e = c in
     record {
-      some = λ l. record { few = e.before.before.if1.false; inside = e.before.if2.false; long_enough = e.if3.false; ragged_not = c.if4.false; packets = refl };
-      none = λ z m f. omega (arith, some_packet f e.before.before.before.requires, f.packets);
+      some = λ l. record { few = e.if-lent-gt-MOST_WORDS.false; inside = e.if-length-lent.false; long_enough = e.if-length-stride.false; ragged_not = c.if-length-stride-ne0.false; packets = refl };
+      none = λ z m f. omega (arith, some_packet f e.requires, f.packets);
     }
 
-pub packets-of-spec : {M : Type 1} → statement M
-packets-of-spec =
+pub packets_of_spec : {M : Type 1} → statement M
+packets_of_spec =
     tie.close
     (tie.spec
-    (λ c. record { some = λ l. absurd (l refl); none = λ z m f. omega (arith, f.few, c.if1.true) })
-    (λ c. record { some = λ l. absurd (l refl); none = λ z m f. omega (arith, f.inside, c.if2.true) })
-    (λ c. record { some = λ l. absurd (l refl); none = λ z m f. omega (arith, f.long_enough, c.if3.true) })
+    (λ c. record { some = λ l. absurd (l refl); none = λ z m f. omega (arith, f.few, c.if-lent-gt-MOST_WORDS.true) })
+    (λ c. record { some = λ l. absurd (l refl); none = λ z m f. omega (arith, f.inside, c.if-length-lent.true) })
+    (λ c. record { some = λ l. absurd (l refl); none = λ z m f. omega (arith, f.long_enough, c.if-length-stride.true) })
     (λ c. search rules)
-    (λ c. record { some = λ l. absurd (l refl); none = λ z m f. c.if4.true f.ragged_not })
+    (λ c. record { some = λ l. absurd (l refl); none = λ z m f. c.if-length-stride-ne0.true f.ragged_not })
     (λ c. search rules)
     whole)

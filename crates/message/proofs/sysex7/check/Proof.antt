@@ -6,18 +6,18 @@ use Rattle.message.proofs.Checked.{Taken, found_none, found_taken, taken_begins,
 use Rattle.message.proofs.sysex7.check.Statement.{statement}
 use Rattle.message.proofs.sysex7.check.Tie as tie
 
-message : (c : tie.Else1) → let d = c.before.before.before in
-    Taken sysex7 d.args.words.now d.args.length (c.before.size-found.result - 1)
-message c = found_taken sysex7 _ _ c.before.size-found.ensures c.if1.false
+message : (c : tie.Else-found-eq0) → let d = c in
+    Taken sysex7 d.args.words.now d.args.length (c.size_found-found.result - 1)
+message c = found_taken sysex7 _ _ c.size_found-found.ensures c.if-found-eq0.false
 
-pub check-spec : {M : Type 1} → statement M
-check-spec =
+pub check_spec : {M : Type 1} → statement M
+check_spec =
     tie.close
     (tie.spec
     (λ c κs. search rules)
     (λ c κs. search rules)
-    (λ c. let t = c.before in checked_fault sysex7 _ _ (c.why.ensures (found_none sysex7 _ _ t.before.size-found.ensures t.if1.true)))
+    (λ c. let t = c in checked_fault sysex7 _ _ (c.why.ensures (found_none sysex7 _ _ t.size_found-found.ensures t.if-found-eq0.true)))
     (λ c. taken_begins sysex7 _ _ (message c.before))
     (λ c κs. search rules)
     (λ c. search rules)
-    (λ c. rw c.Group-of.ensures (checked_size sysex7 _ _ (message c.before.before))))
+    (λ c. rw c.group_of.ensures (checked_size sysex7 _ _ (message c.before.before))))

@@ -5,5 +5,5 @@ use Rattle.message.proofs.Checked.{shaped7}
 use Rattle.message.proofs.sysex7.why.Statement.{statement}
 use Rattle.message.proofs.sysex7.why.Tie as tie
 
-pub why-spec : {M : Type 1} → statement M
-why-spec = tie.close (tie.spec (λ c κs. search rules) (λ c. c.why.ensures sysex7 shaped7))
+pub why_spec : {M : Type 1} → statement M
+why_spec = tie.close (tie.spec (λ c κs. search rules) (λ c. c.why.ensures sysex7 shaped7))

@@ -10,26 +10,26 @@ use Rattle.message.proofs.Checked.{Taken, found_none, found_taken}
 use Rattle.message.proofs.sysex8.byte.Statement.{statement}
 use Rattle.message.proofs.sysex8.byte.Tie as tie
 
-message : (c : tie.Else1) → let d = c.before.before.before in Taken sysex8 d.args.words.now d.args.length (c.before.size-found.result - 1)
-message c = found_taken sysex8 _ _ c.before.size-found.ensures c.if1.false
+message : (c : tie.Else-found-eq0) → let d = c in Taken sysex8 d.args.words.now d.args.length (c.size_found-found.result - 1)
+message c = found_taken sysex8 _ _ c.size_found-found.ensures c.if-found-eq0.false
 
-returns : tie.Need-returns
+returns : tie.Need-returns-then-found-eq0
 unfolding get_byte
-returns c = let t = c.before in rw (← (c.why.ensures (found_none sysex8 _ _ t.before.size-found.ensures t.if1.true)))
+returns c = let t = c in rw (← (c.why.ensures (found_none sysex8 _ _ t.size_found-found.ensures t.if-found-eq0.true)))
 
-returns_2 : tie.Need-returns-2
+returns_2 : tie.Need-returns-then-size-index
 unfolding get_byte
-returns_2 c = let m = message c.before in rw (m.passes, ← m.sized, le-leb _ _ c.if2.true)
+returns_2 c = let m = message c.before in rw (m.passes, ← m.sized, le-leb _ _ c.if-size-index.true)
 
-returns-3 : tie.Need-returns-3
+returns-3 : tie.Need-returns
 unfolding get_byte
 returns-3 c =
-    let e = c.before in
-    let m = message e.before in
-    rw (m.passes, ← m.sized, lt-leb _ _ e.if2.false) (ap gives c.byte_of.ensures)
+    let e = c in
+    let m = message e.before.before in
+    rw (m.passes, ← m.sized, lt-leb _ _ e.if-size-index.false) (ap gives c.byte_of.ensures)
 
-pub byte-spec : {M : Type 1} → statement M
-byte-spec =
+pub byte_spec : {M : Type 1} → statement M
+byte_spec =
     tie.close
     (tie.spec
     (λ c κs. search rules)
@@ -37,5 +37,5 @@ byte-spec =
     returns
     (λ c. search rules)
     returns_2
-    (λ c κs. let m = message c.before in (record { passes = m.passes; sized = m.sized }, c.if2.false))
+    (λ c κs. let m = message c.before in (record { passes = m.passes; sized = m.sized }, c.if-size-index.false))
     returns-3)

@@ -11,14 +11,14 @@ message : (d : tie.Start) → Taken sysex8 d.args.words.now d.args.length d.args
 message d = record { passes = d.requires.0.passes; valid = passes_valid sysex8 _ _ d.requires.0.passes; sized = d.requires.0.sized }
 
 -- the byte is where it was found
-stands : (c : tie.After-place-of) → let d = c.before.before in
-    Standing d.args.words.now d.args.length d.args.index c.place_of.result.packet c.place_of.result.byte
-stands c = let d = c.before.before in standing (message d) d.requires.1 c.place_of.ensures
+stands : (c : tie.After-place_of-place) → let d = c in
+    Standing d.args.words.now d.args.length d.args.index c.place_of-place.result.packet c.place_of-place.result.byte
+stands c = let d = c in standing (message d.before.before) d.requires.1 c.place_of-place.ensures
 
-pub byte-of-spec : {M : Type 1} → statement M
-byte-of-spec =
+pub byte_of_spec : {M : Type 1} → statement M
+byte_of_spec =
     tie.close
     (tie.spec
-    (λ c κs. (sized (message c.before), c.before.requires.1))
+    (λ c κs. (sized (message c.before), c.requires.1))
     (λ c κs. let s = stands c in (s.there, s.few, s.inner))
     (λ c. c.byte_at.ensures ∙ sym (stands c.before).reads))

@@ -12,29 +12,29 @@ use Rattle.message.proofs.Checked.{shaped8, Taken, found_none, found_taken, take
 use Rattle.message.proofs.sysex8.set_group.Statement.{statement}
 use Rattle.message.proofs.sysex8.set_group.Tie as tie
 
-message : (c : tie.Else1) → let d = c.before.before.before.before in Taken sysex8 d.args.words.now d.args.length (c.before.size-found.result - 1)
-message c = found_taken sysex8 _ _ c.before.size-found.ensures c.if1.false
+message : (c : tie.Else-found-eq0) → let d = c in Taken sysex8 d.args.words.now d.args.length (c.size_found-found.result - 1)
+message c = found_taken sysex8 _ _ c.size_found-found.ensures c.if-found-eq0.false
 
-returns : tie.Need-returns
+returns : tie.Need-returns-then-found-eq0
 unfolding set_group
-returns c = let t = c.before.before in rw (← (c.why.ensures (found_none sysex8 _ _ t.before.size-found.ensures t.if1.true)))
+returns c = let t = c in rw (← (c.why.ensures (found_none sysex8 _ _ t.size_found-found.ensures t.if-found-eq0.true)))
 
-returns_2 : tie.Need-returns-2
+returns_2 : tie.Need-returns-then-group-gt15
 unfolding set_group
-returns_2 c = rw ((message c.before).passes, lt-ltb _ _ c.if2.true)
+returns_2 c = rw ((message c.before).passes, lt-ltb _ _ c.if-group-gt15.true)
 
-returns-3 : tie.Need-returns-3
+returns-3 : tie.Need-returns
 unfolding set_group
 returns-3 c =
-    let h = c.before.before in
-    let e = h.before.before in
-    let a = e.before.before.before.before.before.args in
-    let whole : a.group % 16 ≡ a.group = omega (arith, e.if2.false) in
-    rw ((message e.before).passes, le-ltb _ _ e.if2.false)
-    (ap (λ l. (pass, l)) (h.set-heads.ensures sysex8 refl ∙ ap (λ (g : ℕ). on_heads sysex8 (λ x. with_group x g) a.words.now (a.length / 4)) whole))
+    let h = c in
+    let e = h in
+    let a = e.args in
+    let whole : a.group % 16 ≡ a.group = omega (arith, e.if-group-gt15.false) in
+    rw ((message e.before.before.before.before.before).passes, le-ltb _ _ e.if-group-gt15.false)
+    (ap (λ l. (pass, l)) (h.set_heads.ensures sysex8 refl ∙ ap (λ (g : ℕ). on_heads sysex8 (λ x. with_group x g) a.words.now (a.length / 4)) whole))
 
-pub set-group-spec : {M : Type 1} → statement M
-set-group-spec =
+pub set_group_spec : {M : Type 1} → statement M
+set_group_spec =
     tie.close
     (tie.spec
     (λ c κs. search rules)

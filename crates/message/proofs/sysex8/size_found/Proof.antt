@@ -7,11 +7,11 @@ use Rattle.message.proofs.Checked.{shaped8, found_unframed, found_framed}
 use Rattle.message.proofs.sysex8.size_found.Statement.{statement}
 use Rattle.message.proofs.sysex8.size_found.Tie as tie
 
-pub size-found-spec : {M : Type 1} → statement M
-size-found-spec =
+pub size_found_spec : {M : Type 1} → statement M
+size_found_spec =
     tie.close
     (tie.spec
     (λ c κs. search rules)
-    (λ c. found_unframed sysex8 shaped8 _ _ (c.before.packets-of.ensures.none c.if1.true))
-    (λ c κs. let f = c.before.packets-of.ensures.some c.if1.false in (framed_inside _ f (search rules), some_packet f (search rules)))
-    (λ c. let e = c.before in c.in_order.ensures ∙ found_framed sysex8 shaped8 _ _ (e.before.packets-of.ensures.some e.if1.false)))
+    (λ c. found_unframed sysex8 shaped8 _ _ (c.packets_of-packets.ensures.none c.if-packets-eq0.true))
+    (λ c κs. let f = c.packets_of-packets.ensures.some c.if-packets-eq0.false in (framed_inside _ f (search rules), some_packet f (search rules)))
+    (λ c. let e = c in c.in_order.ensures ∙ found_framed sysex8 shaped8 _ _ (e.packets_of-packets.ensures.some e.if-packets-eq0.false)))

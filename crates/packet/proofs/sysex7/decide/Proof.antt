@@ -7,11 +7,11 @@ use Rattle.packet.proofs.Laws.{counted_in, counted_high}
 use Rattle.packet.proofs.sysex7.decide.Statement.{statement}
 use Rattle.packet.proofs.sysex7.decide.Tie as tie
 
-returns : tie.Need-returns
-returns c = c.kind_of.ensures ∙ counted_in sysex7 _ _ _ c.before.sysex7-size.ensures (omega arith) (omega arith)
+returns : tie.Need-returns-in-0-to-6
+returns c = c.kind_of.ensures ∙ counted_in sysex7 _ _ _ c.sysex7_size.ensures (omega arith) (omega arith)
 
-returns_2 : tie.Need-returns-2
+returns_2 : tie.Need-returns-in_default
 returns_2 c = counted_high sysex7 _ _ (omega arith)
 
-pub decide-spec : {M : Type 1} → statement M
-decide-spec = tie.close (tie.spec (λ c κs. search rules) (λ c κs. search rules) returns returns_2)
+pub decide_spec : {M : Type 1} → statement M
+decide_spec = tie.close (tie.spec (λ c κs. search rules) (λ c κs. search rules) returns returns_2)

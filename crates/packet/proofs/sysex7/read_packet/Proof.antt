@@ -8,27 +8,27 @@ use Rattle.packet.proofs.Laws.{packet_from, reader7, short, foreign, ours}
 use Rattle.packet.proofs.sysex7.read_packet.Statement.{statement}
 use Rattle.packet.proofs.sysex7.read_packet.Tie as tie
 
-decided : (c : tie.After-decide)
-    → let words = c.before.before.before.before.before.before.before.before.args.words.now in
-    packet_from sysex7 words (decided_meaning c.decide.result) ≡ read_packet7 words
+decided : (c : tie.After-decide-decided)
+    → let words = c.args.words.now in
+    packet_from sysex7 words (decided_meaning c.decide-decided.result) ≡ read_packet7 words
 decided c =
-    let count = c.before in
-    let status = count.before in
-    let type = status.before in
-    let seen = type.before in
+    let count = c in
+    let status = count in
+    let type = status in
+    let seen = type in
     ours reader7 _
-    (rw (status.status-of.ensures, count.count_of.ensures) at c.decide.ensures)
-    seen.before.before.if1.false
-    (sym seen.type-of.ensures ∙ type.if2.false)
+    (rw (status.status_of.ensures, count.count_of.ensures) at c.decide-decided.ensures)
+    seen.if-words-lt2.false
+    (sym seen.type_of.ensures ∙ type.if-type_of-ne3.false)
 
-pub read-packet-spec : {M : Type 1} → statement M
-read-packet-spec =
+pub read_packet_spec : {M : Type 1} → statement M
+read_packet_spec =
     tie.close
     (tie.spec
-    (λ c. short reader7 _ c.if1.true)
+    (λ c. short reader7 _ c.if-words-lt2.true)
     (λ c. search rules)
     (λ c κs. search rules)
-    (λ c. foreign reader7 _ c.before.before.before.if1.false (rw c.before.type-of.ensures at c.if2.true))
+    (λ c. foreign reader7 _ c.if-words-lt2.false (rw c.type_of.ensures at c.if-type_of-ne3.true))
     (λ c κs. search rules)
     (λ c κs. search rules)
     (λ c. search rules)
@@ -36,5 +36,5 @@ read-packet-spec =
     (λ c. search rules)
     (λ c κs. search rules)
     (λ c. search rules)
-    (λ c. let d = c.before.before in rw (c.Group-of.ensures, ← decided d.before.before, d.decided.given.1))
-    (λ c. rw c.before.decided2.given.1 at (decided c.before.before.before)))
+    (λ c. let d = c in rw (c.group_of.ensures, ← decided d.before.before.before, d.decided-1.given.1))
+    (λ c. rw c.decided-in-Refused-1.given.1 at (decided c.before.before.before)))

@@ -6,24 +6,24 @@ use Rattle.packet.proofs.Laws.{reader8, byte-given, byte_refused}
 use Rattle.packet.proofs.sysex8.byte.Statement.{statement}
 use Rattle.packet.proofs.sysex8.byte.Tie as tie
 
-payload-byte-requires : tie.Need-payload-byte-requires
+payload-byte-requires : tie.Need-payload_byte-requires
 payload-byte-requires c κs =
-    let r = c.before in
-    let h = reader8.has _ (rw r.read.given.1 at r.before.before.read-packet.ensures) in
+    let r = c in
+    let h = reader8.has _ (rw r.read-1.given.1 at r.read_packet-read.ensures) in
     omega arith
 
-returns : tie.Need-returns
+returns : tie.Need-returns-in-Packet
 returns c =
-    let r = c.before.before in
-    c.payload-byte.ensures ∙ byte-given reader8 _ _ (rw r.read.given.1 at r.before.before.read-packet.ensures)
+    let r = c in
+    c.payload_byte.ensures ∙ byte-given reader8 _ _ (rw r.read-1.given.1 at r.read_packet-read.ensures)
 
-returns_2 : tie.Need-returns-2
+returns_2 : tie.Need-returns-in-Refused
 returns_2 c =
-    let r = c.before in
-    byte_refused reader8 _ _ (rw r.read2.given.1 at r.before.before.read-packet.ensures)
+    let r = c in
+    byte_refused reader8 _ _ (rw r.read-in-Refused-1.given.1 at r.read_packet-read.ensures)
 
-pub byte-spec : {M : Type 1} → statement M
-byte-spec =
+pub byte_spec : {M : Type 1} → statement M
+byte_spec =
     tie.close
     (tie.spec
     (λ c κs. search rules)

@@ -8,20 +8,20 @@ use Rattle.packet.proofs.Laws.{decide_plain, decide_status}
 use Rattle.packet.proofs.sysex8.decide.Statement.{statement}
 use Rattle.packet.proofs.sysex8.decide.Tie as tie
 
-returns : tie.Need-returns
-returns c = rw (c.before.before.match.keys1, c.before.if1.true) c.blank-end.ensures
+returns : tie.Need-returns-then-blank
+returns c = rw (c.in-3.keys1, c.if-blank.true) c.blank_end.ensures
 
-returns_2 : tie.Need-returns-2
-returns_2 c = c.counted-kind.ensures ∙ decide_plain _ _ _ (omega arith) (rw (c.before.if1.false, and-false))
+returns_2 : tie.Need-returns-else-blank
+returns_2 c = c.counted_kind.ensures ∙ decide_plain _ _ _ (omega arith) (rw (c.if-blank.false, and-false))
 
-returns-3 : tie.Need-returns-3
-returns-3 c = c.counted-kind2.ensures ∙ decide_plain _ _ _ (omega arith) (rw (ne_eqb c.before.before.before.args.status 3 (λ e. omega arith)))
+returns-3 : tie.Need-returns-in-0-to-2
+returns-3 c = c.counted_kind-in-0-to-2.ensures ∙ decide_plain _ _ _ (omega arith) (rw (ne_eqb c.args.status 3 (λ e. omega arith)))
 
-returns-4 : tie.Need-returns-4
+returns-4 : tie.Need-returns-in_default
 returns-4 c = decide_status _ _ _ (omega arith)
 
-pub decide-spec : {M : Type 1} → statement M
-decide-spec =
+pub decide_spec : {M : Type 1} → statement M
+decide_spec =
     tie.close
     (tie.spec
     (λ c κs. search rules)

@@ -5,48 +5,48 @@ use Rattle.packet.proofs.Laws.{blank-words}
 use Rattle.packet.proofs.sysex8.is_blank.Statement.{statement}
 use Rattle.packet.proofs.sysex8.is_blank.Tie as tie
 
-returns : tie.Need-returns
+returns : tie.Need-returns-then-octet_of-ne0
 returns c =
-    let k = c.before in
-    let w = k.before in
-    rw (blank-words _ w.before.before.requires w.shared-slice-known2.given, ne_eqb _ _ (rw k.octet-of.ensures at c.if1.true))
+    let k = c in
+    let w = k in
+    rw (blank-words _ w.requires w.shared_slice_known-2-1.given, ne_eqb _ _ (rw k.octet_of.ensures at c.if-octet_of-ne0.true))
 
-returns_2 : tie.Need-returns-2
+returns_2 : tie.Need-returns-then-words-ne0
 returns_2 c =
-    let k = c.before in
-    let e = k.before in
+    let k = c in
+    let e = k in
     rw (
-      blank-words _ e.before.before.before.before.requires k.shared-slice-known3.given,
-      eq-eqb _ _ (rw e.before.octet-of.ensures at e.if1.false),
-      ne_eqb _ _ c.if2.true,
+      blank-words _ e.requires k.shared_slice_known-3-1.given,
+      eq-eqb _ _ (rw e.octet_of.ensures at e.if-octet_of-ne0.false),
+      ne_eqb _ _ c.if-words-ne0.true,
     )
 
-returns-3 : tie.Need-returns-3
+returns-3 : tie.Need-returns-then-words-ne0-2
 returns-3 c =
-    let k = c.before in
-    let f = k.before in
-    let e = f.before.before in
+    let k = c in
+    let f = k in
+    let e = f in
     rw (
-      blank-words _ e.before.before.before.before.requires k.shared-slice-known4.given,
-      eq-eqb _ _ (rw e.before.octet-of.ensures at e.if1.false),
-      eq-eqb _ _ f.if2.false,
-      ne_eqb _ _ c.if3.true,
+      blank-words _ e.requires k.shared_slice_known-4-1.given,
+      eq-eqb _ _ (rw e.octet_of.ensures at e.if-octet_of-ne0.false),
+      eq-eqb _ _ f.if-words-ne0.false,
+      ne_eqb _ _ c.if-words-ne0-2.true,
     )
 
-returns-4 : tie.Need-returns-4
+returns-4 : tie.Need-returns
 returns-4 c =
-    let g = c.before in
-    let f = g.before.before in
-    let e = f.before.before in
+    let g = c in
+    let f = g in
+    let e = f in
     rw (
-      blank-words _ e.before.before.before.before.requires c.shared-slice-known5.given,
-      eq-eqb _ _ (rw e.before.octet-of.ensures at e.if1.false),
-      eq-eqb _ _ f.if2.false,
-      eq-eqb _ _ g.if3.false,
+      blank-words _ e.requires c.shared_slice_known-5-1.given,
+      eq-eqb _ _ (rw e.octet_of.ensures at e.if-octet_of-ne0.false),
+      eq-eqb _ _ f.if-words-ne0.false,
+      eq-eqb _ _ g.if-words-ne0-2.false,
     )
 
-pub is-blank-spec : {M : Type 1} → statement M
-is-blank-spec =
+pub is_blank_spec : {M : Type 1} → statement M
+is_blank_spec =
     tie.close
     (tie.spec
     (λ c. search rules)

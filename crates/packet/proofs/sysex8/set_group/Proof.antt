@@ -6,25 +6,25 @@ use Rattle.packet.proofs.Laws.{reader8, group_given, group_refused}
 use Rattle.packet.proofs.sysex8.set_group.Statement.{statement}
 use Rattle.packet.proofs.sysex8.set_group.Tie as tie
 
-put-group-requires : tie.Need-put-group-requires
+put-group-requires : tie.Need-put_group-requires
 put-group-requires c κs =
-    let t = c.before in
-    let h = reader8.has _ (rw t.enum_told.given.1 at t.before.before.read-packet.ensures) in
+    let t = c in
+    let h = reader8.has _ (rw t.enum_told-1.given.1 at t.read_packet-read.ensures) in
     omega arith
 
-returns : tie.Need-returns
+returns : tie.Need-returns-in-Packet
 returns c =
-    let p = c.before.before in
-    let t = p.before.before in
-    p.put-group.ensures ∙ group_given reader8 _ _ (rw t.enum_told.given.1 at t.before.before.read-packet.ensures)
+    let p = c in
+    let t = p in
+    p.put_group.ensures ∙ group_given reader8 _ _ (rw t.enum_told-1.given.1 at t.read_packet-read.ensures)
 
-returns_2 : tie.Need-returns-2
+returns_2 : tie.Need-returns-in-Refused
 returns_2 c =
-    let r = c.before in
-    group_refused reader8 _ _ (rw r.read.given.1 at r.before.before.read-packet.ensures)
+    let r = c in
+    group_refused reader8 _ _ (rw r.read-1.given.1 at r.read_packet-read.ensures)
 
-pub set-group-spec : {M : Type 1} → statement M
-set-group-spec =
+pub set_group_spec : {M : Type 1} → statement M
+set_group_spec =
     tie.close
     (tie.spec
     (λ c κs. search rules)

@@ -11,8 +11,8 @@ pub kind_of_spec : {M : Type 1} → statement M
 kind_of_spec =
     tie.close
     (tie.spec
-    (λ c. rw c.in-0.keys1)
-    (λ c. rw c.in-1.keys2)
-    (λ c. rw c.in-2.keys3)
-    (λ c. rw c.in-3.keys4)
+    (λ c. rw c.in-0.is)
+    (λ c. rw c.in-1.is)
+    (λ c. rw c.in-2.is)
+    (λ c. rw c.in-3.is)
     returns-5)

@@ -7,11 +7,11 @@ use Rattle.equality.proofs.Telling.{no_told, told_as}
 use Rattle.equality.proofs.numbers.begin_with.Statement.{statement}
 use Rattle.equality.proofs.numbers.begin_with.Tie as tie
 
-pub begin-with-spec : {M : Type 1} → statement M
-begin-with-spec =
+pub begin_with_spec : {M : Type 1} → statement M
+begin_with_spec =
     tie.close
     (tie.spec
-    (λ c. no_told (λ p. omega (arith, c.if1.true, p.0)))
-    (λ c. sym (length-take-le _ _ c.before.if1.false))
+    (λ c. no_told (λ p. omega (arith, c.if-numbers-count.true, p.0)))
+    (λ c. sym (length-take-le _ _ c.if-numbers-count.false))
     (λ c κs. search rules)
-    (λ c. told_as (λ e. (c.before.before.if1.false, e)) (λ p. p.1) c.same_numbers.ensures))
+    (λ c. told_as (λ e. (c.if-numbers-count.false, e)) (λ p. p.1) c.same_numbers.ensures))

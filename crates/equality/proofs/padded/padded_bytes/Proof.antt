@@ -8,26 +8,26 @@ use Rattle.equality.proofs.Alike.{AlikeTo, each_told, one_fails}
 use Rattle.equality.proofs.padded.padded_bytes.Statement.{statement}
 use Rattle.equality.proofs.padded.padded_bytes.Tie as tie
 
-abbrev invariant-loop : tie.invariant-loop
+abbrev invariant-loop : tie.invariant-loop-at
 invariant-loop bytes front at₀ at = (at ≤ length bytes) × (AlikeTo bytes front at)
 
-abbrev decreases-loop : tie.decreases-loop
+abbrev decreases-loop : tie.decreases-loop-at
 decreases-loop bytes front at₀ at = length bytes - at
 
-returns : tie.Need-returns invariant-loop decreases-loop
+returns : tie.Need-returns-then-bytes-at invariant-loop decreases-loop
 returns c =
-    let w = c.before in
-    let o = w.before.before in
-    one_fails _ o.before.loop.at o.loop-test.true (λ e. c.if1.true (e ∙ sym w.byte-or-zero.ensures))
+    let w = c in
+    let o = w in
+    one_fails _ o.loop-at.at o.loop-at-test.true (λ e. c.if-bytes-at.true (e ∙ sym w.byte_or_zero.ensures))
 
-loop-again : tie.Need-loop-preserved invariant-loop decreases-loop
+loop-again : tie.Need-loop-at-preserved invariant-loop decreases-loop
 loop-again c =
-    let w = c.before in
-    let l = w.before.before.before.loop in
-    (search rules, below_more _ _ l.invariant.1 (c.if1.false ∙ w.byte-or-zero.ensures))
+    let w = c in
+    let l = w.loop-at in
+    (search rules, below_more _ _ l.invariant.1 (c.if-bytes-at.false ∙ w.byte_or_zero.ensures))
 
-pub padded-bytes-spec : {M : Type 1} → statement M
-padded-bytes-spec =
+pub padded_bytes_spec : {M : Type 1} → statement M
+padded_bytes_spec =
     tie.close
     (tie.spec
     invariant-loop
@@ -39,4 +39,4 @@ padded-bytes-spec =
     (λ c. search rules)
     (λ c. search rules)
     loop-again
-    (λ c. let l = c.before.loop in each_told _ l.at c.loop-test.false l.invariant.1))
+    (λ c. let l = c.loop-at in each_told _ l.at c.loop-at-test.false l.invariant.1))

@@ -8,26 +8,26 @@ use Rattle.equality.proofs.Alike.{AlikeTo, each_told, one_fails}
 use Rattle.equality.proofs.padded.padded_words.Statement.{statement}
 use Rattle.equality.proofs.padded.padded_words.Tie as tie
 
-abbrev invariant-loop : tie.invariant-loop
+abbrev invariant-loop : tie.invariant-loop-at
 invariant-loop words front at₀ at = (at ≤ length words) × (AlikeTo words front at)
 
-abbrev decreases-loop : tie.decreases-loop
+abbrev decreases-loop : tie.decreases-loop-at
 decreases-loop words front at₀ at = length words - at
 
-returns : tie.Need-returns invariant-loop decreases-loop
+returns : tie.Need-returns-then-words-at invariant-loop decreases-loop
 returns c =
-    let w = c.before in
-    let o = w.before.before in
-    one_fails _ o.before.loop.at o.loop-test.true (λ e. c.if1.true (e ∙ sym w.word-or-zero.ensures))
+    let w = c in
+    let o = w in
+    one_fails _ o.loop-at.at o.loop-at-test.true (λ e. c.if-words-at.true (e ∙ sym w.word_or_zero.ensures))
 
-loop-again : tie.Need-loop-preserved invariant-loop decreases-loop
+loop-again : tie.Need-loop-at-preserved invariant-loop decreases-loop
 loop-again c =
-    let w = c.before in
-    let l = w.before.before.before.loop in
-    (search rules, below_more _ _ l.invariant.1 (c.if1.false ∙ w.word-or-zero.ensures))
+    let w = c in
+    let l = w.loop-at in
+    (search rules, below_more _ _ l.invariant.1 (c.if-words-at.false ∙ w.word_or_zero.ensures))
 
-pub padded-words-spec : {M : Type 1} → statement M
-padded-words-spec =
+pub padded_words_spec : {M : Type 1} → statement M
+padded_words_spec =
     tie.close
     (tie.spec
     invariant-loop
@@ -40,4 +40,4 @@ padded-words-spec =
     (λ c. search rules)
     (λ c. search rules)
     loop-again
-    (λ c. let l = c.before.loop in each_told _ l.at c.loop-test.false l.invariant.1))
+    (λ c. let l = c.loop-at in each_told _ l.at c.loop-at-test.false l.invariant.1))

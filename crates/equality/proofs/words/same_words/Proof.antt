@@ -8,29 +8,29 @@ use Rattle.equality.proofs.Alike.{AlikeTo, same_alike, lengths_differ, places_di
 use Rattle.equality.proofs.words.same_words.Statement.{statement}
 use Rattle.equality.proofs.words.same_words.Tie as tie
 
-abbrev invariant-loop : tie.invariant-loop
+abbrev invariant-loop : tie.invariant-loop-at
 invariant-loop words expected at₀ at = (at ≤ length words) × (length words ≡ length expected) × (AlikeTo words expected at)
 
-abbrev decreases-loop : tie.decreases-loop
+abbrev decreases-loop : tie.decreases-loop-at
 decreases-loop words expected at₀ at = length words - at
 
-loop-again : tie.Need-loop-preserved invariant-loop decreases-loop
-loop-again c = let l = c.before.before.before.before.loop in (search rules, l.invariant.1, below_more _ _ l.invariant.2 c.if2.false)
+loop-again : tie.Need-loop-at-preserved invariant-loop decreases-loop
+loop-again c = let l = c.loop-at in (search rules, l.invariant.1, below_more _ _ l.invariant.2 c.if-words-at.false)
 
-pub same-words-spec : {M : Type 1} → statement M
-same-words-spec =
+pub same_words_spec : {M : Type 1} → statement M
+same_words_spec =
     tie.close
     (tie.spec
     invariant-loop
     decreases-loop
-    (λ c. lengths_differ _ _ c.if1.true)
-    (λ c. (search rules, c.if1.false, below_none _))
+    (λ c. lengths_differ _ _ c.if-words-expected.true)
+    (λ c. (search rules, c.if-words-expected.false, below_none _))
     (λ c. search rules)
     (λ c. search rules)
     (λ c. search rules)
     (λ c. search rules)
-    (λ c. places_differ _ _ _ c.if2.true)
+    (λ c. places_differ _ _ _ c.if-words-at.true)
     (λ c. search rules)
     (λ c. search rules)
     loop-again
-    (λ c. let l = c.before.loop in same_alike _ _ l.invariant.1 l.at c.loop-test.false l.invariant.2))
+    (λ c. let l = c.loop-at in same_alike _ _ l.invariant.1 l.at c.loop-at-test.false l.invariant.2))

@@ -9,7 +9,7 @@ use Rattle.packet.proofs.sysex8.decide.Statement.{statement}
 use Rattle.packet.proofs.sysex8.decide.Tie as tie
 
 returns : tie.Need-returns-then-blank
-returns c = rw (c.in-3.keys1, c.if-blank.true) c.blank_end.ensures
+returns c = rw (c.in-3.is, c.if-blank.true) c.blank_end.ensures
 
 returns_2 : tie.Need-returns-else-blank
 returns_2 c = c.counted_kind.ensures ∙ decide_plain _ _ _ (omega arith) (rw (c.if-blank.false, and-false))

@@ -1,0 +1,13 @@
+-- `packet::sysex7::byte`: a byte of the packet that was read, or the reader's refusal. Assumes nothing.
+use Rattle.std.proofs.Common.{◌∙◌, arith}
+use Rattle.packet.proofs.Laws.{reader7, byte-given, byte_refused}
+use Rattle.packet.proofs.sysex7.byte.Goals as goal
+
+pub payload_byte-requires : goal.payload_byte-requires
+payload_byte-requires c = let h = reader7.has _ c.in-Packet.ensures in omega arith
+
+pub returns-in-Packet : goal.returns-in-Packet
+returns-in-Packet c = c.payload_byte.ensures ∙ byte-given reader7 _ _ c.in-Packet.ensures
+
+pub returns-in-Refused : goal.returns-in-Refused
+returns-in-Refused c = byte_refused reader7 _ _ c.in-Refused.ensures

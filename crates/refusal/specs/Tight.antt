@@ -3,7 +3,7 @@
 -- Assumes nothing.
 use Rattle.std.specs.Prelude.{◌≡◌, List, ℕ}
 use contract.Lifetimes.{Lfts}
-use Rattle.std.specs.Borrow.{Bor}
+use Rattle.std.specs.Borrow.{Bor, MutBor}
 use denote.Triple.Clauses.{AtExit}
 use borrow.Fn.Kinds.{Out, ParamKind, ResultKind, Dens, res_t, ended_of}
 use Rattle.refusal.specs.Answer.{Answer}
@@ -49,6 +49,10 @@ pub record Called {A : Type 0} (n : ℕ) (ps : List (ParamKind n)) (r : ResultKi
 -- a list that is lent, at some place of memory
 abbrev pub lent : List ℕ → Bor (List ℕ)
 lent list = record { ref_ptr = (0, 0); now = list }
+
+-- the same of a list that is lent to be written
+abbrev pub lent_mut : List ℕ → MutBor (List ℕ)
+lent_mut list = record { ref_ptr = (0, 0); ghost_name = 0; now = list }
 
 -- a call that has an outcome, so that nothing is said of none
 pub record HasAnswer {A : Type 0} (Call : Answer A → Type 0) : Type 0 where

@@ -2,7 +2,7 @@
 use mathlib.Core.Path.{refl, sym, ap, ◌∙◌}
 use mathlib.Core.List.{[]}
 use Rattle.refusal.specs.Answer.{Answer}
-use Rattle.refusal.specs.Tight.{lent}
+use Rattle.refusal.specs.Tight.{lent, lent_mut}
 use Rattle.ports.specs.Streams.{Reply}
 use Rattle.ports.specs.Table.{empty_table, receive}
 use Rattle.ports.specs.Interleaved.{Interleaved, PromisedPorts}
@@ -19,9 +19,9 @@ promised =
           let meant = received_meant outcome.0 (receive_named table words port packet output) in
           record {
             lifetimes = ([], ([], ([], ([], tt))));
-            arguments = (lent table, (lent words, (port, (lent packet, (lent output, tt)))));
+            arguments = (lent_mut table, (lent_mut words, (port, (lent packet, (lent_mut output, tt)))));
             said = received_back outcome.0;
-            exit = (lent outcome.1.0, (lent outcome.1.1, (port, (lent packet, (lent outcome.1.2, tt)))));
+            exit = (lent_mut outcome.1.0, (lent_mut outcome.1.1, (port, (lent packet, (lent_mut outcome.1.2, tt)))));
             promise = ap (λ (a : Answer Reply). (a, outcome.1)) meant;
             given = (refl, refl, refl, refl, refl);
             answer_is = meant;
@@ -31,9 +31,9 @@ promised =
       can_clear = λ table whole.
           record {
             lifetimes = ([], tt);
-            arguments = (lent table, tt);
+            arguments = (lent_mut table, tt);
             said = tt;
-            exit = (lent empty_table, tt);
+            exit = (lent_mut empty_table, tt);
             promise = refl;
             given = refl;
             answer_is = refl;

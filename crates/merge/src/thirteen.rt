@@ -7,7 +7,7 @@ ghost use Rattle.flow.specs.Flowing.{Put};
 ghost use Rattle.merge.specs.Thirteens.{number, body, front_of, middle_of};
 
 // The 13 bytes of a packet, as the first five and the other eight.
-#[derive(Drop)]
+#[derive(Clone, Copy)]
 pub struct Thirteen {
     pub high: u64,
     pub low: u64,

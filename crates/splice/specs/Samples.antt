@@ -2,7 +2,6 @@
 -- Assumes nothing.
 use Rattle.std.specs.Prelude.{◌≡◌, refl, List, [], ◌∷◌, ℕ}
 use Rattle.std.proofs.Common.{lit≤}
-use Rattle.ump.specs.Packet.{sysex8}
 use Rattle.ump.specs.Packing.{status_for, packets_for}
 use Rattle.ump.specs.Edits.{Edit, edits_from, edits_of}
 use Rattle.flow.specs.Heads.{head_for}

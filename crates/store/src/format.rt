@@ -8,7 +8,7 @@ use crate::record::{
 };
 
 // What may follow a record besides a dump: edits, no earlier than at `end`; data.
-#[derive(Drop)]
+#[derive(Clone, Copy)]
 pub struct Follow {
     pub edits: bool,
     pub bytes: bool,

@@ -1,8 +1,7 @@
 -- What is said of real-time bytes, over the promise of the library's call. Assumes nothing.
 use mathlib.Core.Path.{refl, sym}
-use mathlib.Core.List.{List, []}
-use Prim.Native.Nat.{ℕ}
-use Rattle.refusal.specs.Tight.{lent}
+use mathlib.Core.List.{[]}
+use Rattle.refusal.specs.Tight.{lent, lent_mut}
 use Rattle.ump.specs.RealTime.{PassesOver, PromisedWriter}
 use Rattle.ump.proofs.RealTime as laws
 use Rattle.stream.specs.declared.Written.TheVariants.{Words}
@@ -16,9 +15,9 @@ promised =
           rw (g.0, g.1, g.2, w.answer_is, w.left) at w.promise;
       can_answer = λ bytes group words n left e. record {
         lifetimes = ([], ([], tt));
-        arguments = (lent bytes, (group, (lent words, tt)));
+        arguments = (lent bytes, (group, (lent_mut words, tt)));
         said = Words n;
-        exit = (lent bytes, (group, (lent left, tt)));
+        exit = (lent bytes, (group, (lent_mut left, tt)));
         promise = sym e;
         given = (refl, refl, refl);
         answer_is = refl;

@@ -1,0 +1,109 @@
+-- `keep` meets its contract: what is left of a packet, whole packets, and the first bytes of the last. Assumes nothing.
+use mathlib.Core.Path.{◌≡◌, refl, ◌∙◌}
+use Prim.Native.Nat.{◌+◌, ◌-◌, ◌*◌, ◌/◌, ◌%◌, max}
+use native.Mathlib.Omega.{arith}
+use borrow.Author.Rules.{rules}
+use Rattle.merge.proofs.Goings.{appends_goes, goes_none}
+use Rattle.merge.proofs.Keeping.{Parted, parted}
+use Rattle.merge.proofs.Keeps.{keep_first, keep_short, keep_run, keep_last, keep_goes}
+use Rattle.merge.proofs.pending.keep.Statement.{statement}
+use Rattle.merge.proofs.pending.keep.Tie as tie
+
+abbrev start : tie.After-least-some → tie.Start
+start l = l.before.before.before
+
+abbrev least-of : tie.After-most-last → tie.After-least-some
+least-of m = m.before.before.before.before.before.before.before
+
+-- the numbers, as far as they are known
+at_first : (l : tie.After-least-some) → let x = (start l).args in
+    Parted x.at x.to (x.at % 13) l.least-some.result ((x.at + 12) / 13) (max ((x.at + 12) / 13) (x.to / 13)) (x.to - 13 * max ((x.at + 12) / 13) (x.to / 13))
+at_first l = parted (start l).args.at (start l).args.to _ _ _ _ _ (start l).requires.0 refl l.least-some.ensures refl refl refl
+
+at_most : (m : tie.After-most-last) → let l = least-of m in let x = (start l).args in
+    Parted x.at x.to (x.at % 13) l.least-some.result ((x.at + 12) / 13) m.most-last.result (x.to - 13 * m.most-last.result)
+at_most m = let l = least-of m in parted (start l).args.at (start l).args.to _ _ _ _ _ (start l).requires.0 refl l.least-some.ensures refl m.most-last.ensures refl
+
+abbrev most-of : tie.After-over-rest → tie.After-most-last
+most-of o = o.before.before.before.before.before
+
+at-over : (o : tie.After-over-rest) → let m = most-of o in let l = least-of m in let x = (start l).args in
+    Parted x.at x.to (x.at % 13) l.least-some.result ((x.at + 12) / 13) m.most-last.result o.over-rest.result
+at-over o = let m = most-of o in let l = least-of m in parted (start l).args.at (start l).args.to _ _ _ _ _ (start l).requires.0 refl l.least-some.ensures refl m.most-last.ensures o.over-rest.ensures
+
+append-requires : tie.Need-append-flow-requires
+append-requires c κs =
+    let l = c in
+    let n = at_first l.before.before in
+    (omega (arith, n.few.1.0), (c.middle-piece.ensures.1, keep_first n (start l.before.before).requires.1.1))
+
+run-requires : tie.Need-run-flow-requires
+run-requires c κs =
+    let m = c in
+    let l = least-of m.before in
+    let n = at_most m.before in
+    let a = m.append-flow.ensures in
+    (n.whole, (omega (arith, (appends_goes a (omega (arith, n.few.1.0))).long, n.top, (start l).requires.1.0), keep_run n (start l).requires.1.1 _ m.middle-piece.ensures.0 (start l).requires.0 a))
+
+front-of-requires : tie.Need-front_of-tail-requires
+front-of-requires c κs =
+    let o = c in
+    let m = most-of o in
+    let l = least-of m in
+    let n = at-over o in
+    let long = o.run-flow.ensures.long ∙ (appends_goes m.append-flow.ensures (omega (arith, n.few.1.0))).long in
+    (n.tail, (omega (arith, n.top, (start l).requires.1.0, (start l).requires.1.1.small), λ h. omega (arith, long, (n.reach h).1, (start l).requires.1.0)))
+
+append-requires-2 : tie.Need-append-requires
+append-requires-2 c κs =
+    let o = c in
+    let m = most-of o.before.before in
+    let l = least-of m in
+    let n = at-over o.before.before in
+    (omega (arith, n.tail), (c.front_of-tail.ensures.1, keep_last n (start l).requires.1.1 _ m.middle-piece.ensures.0 (start l).requires.0 m.append-flow.ensures o.run-flow.ensures))
+
+returns-3 : tie.Need-returns
+returns-3 c =
+    let o = c in
+    let m = most-of o.before.before.before.before.before in
+    let l = least-of m in
+    keep_goes (at-over o.before.before.before.before.before) (start l).requires.0 _ m.middle-piece.ensures.0 m.append-flow.ensures o.run-flow.ensures
+    _ c.front_of-tail.ensures.0 c.append.ensures
+
+-- nothing is kept
+returns : tie.Need-returns-then-at-to
+returns c =
+    let st = c in
+    let z : st.args.to - st.args.at ≡ 0 = omega (arith, c.if-at-to.true) in
+    rw z (goes_none st.requires.1.1.fits)
+
+-- all of it stands in one packet
+returns_2 : tie.Need-returns-then-to-first
+returns_2 c =
+    let a = c in
+    let l = a in
+    keep_short (at_first l.before.before.before.before.before.before) (start l.before.before.before.before.before.before).requires.0 c.if-to-first.true _ a.middle-piece.ensures.0 a.append-flow.ensures
+
+pub keep_spec : {M : Type 1} → statement M
+keep_spec =
+    tie.close
+    (tie.spec
+    returns
+    (λ c. search rules)
+    (λ c. search rules)
+    (λ c κs. search rules)
+    (λ c κs. (at_first c).few)
+    append-requires
+    (λ c. let st = c in omega (arith, st.requires.0, st.requires.1.0, st.requires.1.1.small))
+    (λ c. let st = c in omega (arith, st.requires.0, st.requires.1.0, st.requires.1.1.small))
+    (λ c. (returns_2 c).long)
+    returns_2
+    (λ c κs. search rules)
+    run-requires
+    (λ c. let m = c in let st = start (least-of m.before.before.before.before) in omega (arith, (at_most m.before.before.before.before).top, st.requires.1.0, st.requires.1.1.small))
+    (λ c κs. search rules)
+    (λ c. let o = c in let st = start (least-of (most-of o)) in omega (arith, (at-over o).top, st.requires.1.0, st.requires.1.1.small))
+    front-of-requires
+    append-requires-2
+    (λ c. (returns-3 c).long)
+    returns-3)

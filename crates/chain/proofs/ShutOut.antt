@@ -1,5 +1,7 @@
 -- Wrong outcomes of `describe` that its promise shuts out, each on a concrete store. Assumes nothing.
-use mathlib.Core.Path.{◌≡◌}
+use mathlib.Core.Path.{◌≡◌, refl}
+use mathlib.Core.Bool.{Bool, false, not}
+use lib.Dec.{T, eqb}
 use mathlib.Core.Option.{Option, none, some}
 use mathlib.Core.List.{List, ◌++◌}
 use Prim.Native.Nat.{ℕ, ◌+◌, ◌*◌}
@@ -14,6 +16,7 @@ use Rattle.ump.specs.Edits.{replaced}
 use Rattle.store.specs.Store.{is_data, body_size, records_after, follows_by, allowed_by, well_formed, data_in, patches_in, dump_of, dumps_in, held, twice, sound}
 use Rattle.store.specs.Samples.{one, two, bare}
 use Rattle.chain.specs.Restore as paper
+use Rattle.chain.specs.Meaning.{described_meaning}
 use Rattle.chain.specs.Samples.{shorter, three}
 use Rattle.chain.specs.declared.Basis.{Basis}
 use Rattle.chain.specs.declared.Basis.TheVariants as basis
@@ -53,16 +56,54 @@ record Outcomes : Type 0 where
   ring : Wrong (bare 3 3) 3 (refuse Missing)
   room : Wrong one 1 (refuse Room)
 
-shut_out : Outcomes
+-- what is answered there is another
+abbrev Others : List ℕ → ℕ → Described → Type 0
+Others store number answer = eqb (tells (described_meaning answer)) (tells (paper.describe store number)) ≡ false
+
+own_other : Others shorter 2 (dump (basis.Delta 1) 0 0 13 4 1)
 unfolding is_data body_size records_after follows_by allowed_by well_formed data_in patches_in dump_of dumps_in held twice sound paper.roomed paper.outside paper.rebuilt paper.restored paper.sizes paper.described paper.describe packets_for joined replaced
+own_other = refl
+
+step_other : Others (three ++ (two ++ one)) 3 (dump (basis.Delta 2) 2 7 3 4 1)
+unfolding is_data body_size records_after follows_by allowed_by well_formed data_in patches_in dump_of dumps_in held twice sound paper.roomed paper.outside paper.rebuilt paper.restored paper.sizes paper.described paper.describe packets_for joined replaced
+step_other = refl
+
+base_other : Others (three ++ (two ++ one)) 3 (dump (basis.Delta 1) 2 7 3 4 2)
+unfolding is_data body_size records_after follows_by allowed_by well_formed data_in patches_in dump_of dumps_in held twice sound paper.roomed paper.outside paper.rebuilt paper.restored paper.sizes paper.described paper.describe packets_for joined replaced
+base_other = refl
+
+size_other : Others (two ++ one) 2 (dump (basis.Delta 1) 2 7 2 4 1)
+unfolding is_data body_size records_after follows_by allowed_by well_formed data_in patches_in dump_of dumps_in held twice sound paper.roomed paper.outside paper.rebuilt paper.restored paper.sizes paper.described paper.describe packets_for joined replaced
+size_other = refl
+
+whole_other : Others (one ++ bare 9 1) 9 (dump basis.Whole 2 7 2 4 1)
+unfolding is_data body_size records_after follows_by allowed_by well_formed data_in patches_in dump_of dumps_in held twice sound paper.roomed paper.outside paper.rebuilt paper.restored paper.sizes paper.described paper.describe packets_for joined replaced
+whole_other = refl
+
+group_other : Others one 1 (dump basis.Whole 0 7 2 4 0)
+unfolding is_data body_size records_after follows_by allowed_by well_formed data_in patches_in dump_of dumps_in held twice sound paper.roomed paper.outside paper.rebuilt paper.restored paper.sizes paper.described paper.describe packets_for joined replaced
+group_other = refl
+
+ring_other : Others (bare 3 3) 3 (refuse Missing)
+unfolding is_data body_size records_after follows_by allowed_by well_formed data_in patches_in dump_of dumps_in held twice sound paper.roomed paper.outside paper.rebuilt paper.restored paper.sizes paper.described paper.describe packets_for joined replaced
+ring_other = refl
+
+room_other : Others one 1 (refuse Room)
+unfolding is_data body_size records_after follows_by allowed_by well_formed data_in patches_in dump_of dumps_in held twice sound paper.roomed paper.outside paper.rebuilt paper.restored paper.sizes paper.described paper.describe packets_for joined replaced
+room_other = refl
+
+other : {b : Bool} → b ≡ false → T (not b)
+other e = rw e tt
+
+shut_out : Outcomes
 shut_out =
     record {
-      own = λ κs a x s w p. differ tells tt (rw (w.0, w.1, w.2) at p);
-      step = λ κs a x s w p. differ tells tt (rw (w.0, w.1, w.2) at p);
-      base = λ κs a x s w p. differ tells tt (rw (w.0, w.1, w.2) at p);
-      size = λ κs a x s w p. differ tells tt (rw (w.0, w.1, w.2) at p);
-      whole = λ κs a x s w p. differ tells tt (rw (w.0, w.1, w.2) at p);
-      group = λ κs a x s w p. differ tells tt (rw (w.0, w.1, w.2) at p);
-      ring = λ κs a x s w p. differ tells tt (rw (w.0, w.1, w.2) at p);
-      room = λ κs a x s w p. differ tells tt (rw (w.0, w.1, w.2) at p);
+      own = λ κs a x s w p. differ tells (other own_other) (rw (w.0, w.1, w.2) at p);
+      step = λ κs a x s w p. differ tells (other step_other) (rw (w.0, w.1, w.2) at p);
+      base = λ κs a x s w p. differ tells (other base_other) (rw (w.0, w.1, w.2) at p);
+      size = λ κs a x s w p. differ tells (other size_other) (rw (w.0, w.1, w.2) at p);
+      whole = λ κs a x s w p. differ tells (other whole_other) (rw (w.0, w.1, w.2) at p);
+      group = λ κs a x s w p. differ tells (other group_other) (rw (w.0, w.1, w.2) at p);
+      ring = λ κs a x s w p. differ tells (other ring_other) (rw (w.0, w.1, w.2) at p);
+      room = λ κs a x s w p. differ tells (other room_other) (rw (w.0, w.1, w.2) at p);
     }

@@ -1,6 +1,6 @@
 -- What is said of checking what other senders write (02, T-04), of any call.
 -- Assumes nothing.
-use Rattle.std.specs.Prelude.{◌≡◌, List, ◌++◌, ℕ, suc, ◌+◌, ◌*◌, ◌/◌, ◌^◌, ◌≤◌, ◌<◌, length, get_or, take}
+use Rattle.std.specs.Prelude.{◌≡◌, List, ◌++◌, ℕ, suc, ◌*◌, ◌/◌, ◌^◌, ◌≤◌, ◌<◌, length, get_or, take}
 use Rattle.refusal.specs.Answer.{refused, Verdict, pass}
 use Rattle.refusal.specs.Tight.{HasAnswer}
 use Rattle.ump.specs.Word.{Below}

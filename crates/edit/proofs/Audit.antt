@@ -1,15 +1,11 @@
 -- What an auditor asks holds of all calls that promise the definitions, of any shape. Assumes nothing.
 use mathlib.Core.Path.{◌≡◌, refl, sym, ap, ◌∙◌}
-use mathlib.Core.Bool.{Bool}
 use mathlib.Core.List.{List}
 use Prim.Native.Nat.{ℕ}
 use Rattle.refusal.specs.Answer.{Answer, gives}
 use Rattle.refusal.proofs.Laws.{never_refused}
-use Rattle.ump.specs.Word.{Below}
 use Rattle.ump.specs.Packet.{Shape}
-use Rattle.ump.specs.Splice.{Spliced}
-use Rattle.ump.specs.Edits.{Edit, Patch, splice_all}
-use Rattle.ump.specs.Origin.{Origin, origin}
+use Rattle.ump.specs.Edits.{Patch}
 use Rattle.ump.specs.Worker.{Fits, start}
 use Rattle.ump.specs.Demand.{Demand3, Family, Accepts, Audited}
 use Rattle.ump.specs.Meets.{PromisedFamily}

@@ -4,7 +4,7 @@ use mathlib.Core.Bool.{Bool}
 use mathlib.Core.List.{[], ◌∷◌}
 use lib.Dec.{lit<}
 use Rattle.refusal.specs.Answer.{Answer, gives, refused, map_answer}
-use Rattle.refusal.specs.Tight.{lent}
+use Rattle.refusal.specs.Tight.{lent, lent_mut}
 use Rattle.refusal.proofs.Laws.{never_refused}
 use Rattle.ump.specs.Packet.{sysex8}
 use Rattle.ump.specs.Edits.{Edit, Range, move_edit}
@@ -32,9 +32,9 @@ answers =
     record {
       can_splice = λ {words = words} {left} {len} {edit} {bytes} {change} b e. record {
         lifetimes = ([], ([], tt));
-        arguments = (lent words, (len, (edit.from, (edit.to, (lent bytes, tt)))));
+        arguments = (lent_mut words, (len, (edit.from, (edit.to, (lent bytes, tt)))));
         said = spliced.Done (record { length = change.length; growth = change.growth });
-        exit = (lent left, (len, (edit.from, (edit.to, (lent bytes, tt)))));
+        exit = (lent_mut left, (len, (edit.from, (edit.to, (lent bytes, tt)))));
         promise = sym e;
         given = (refl, refl, refl, refl, refl);
         answer_is = refl;
@@ -80,9 +80,9 @@ promised =
       answers = answers;
       can_repack = λ {words = words} {left} {len} {new} e. record {
         lifetimes = ([], tt);
-        arguments = (lent words, (len, tt));
+        arguments = (lent_mut words, (len, tt));
         said = repacked.Words new;
-        exit = (lent left, (len, tt));
+        exit = (lent_mut left, (len, tt));
         promise = sym e;
         given = (refl, refl);
         answer_is = refl;
@@ -90,9 +90,9 @@ promised =
       };
       can_at_once = λ {words = words} {left} {len} {numbers} {bytes} {change} b e. record {
         lifetimes = ([], ([], ([], tt)));
-        arguments = (lent words, (len, (lent numbers, (lent bytes, tt))));
+        arguments = (lent_mut words, (len, (lent numbers, (lent bytes, tt))));
         said = spliced.Done (record { length = change.length; growth = change.growth });
-        exit = (lent left, (len, (lent numbers, (lent bytes, tt))));
+        exit = (lent_mut left, (len, (lent numbers, (lent bytes, tt))));
         promise = sym e;
         given = (refl, refl, refl, refl);
         answer_is = refl;

@@ -20,7 +20,7 @@ pub use origins::{EditByte, HeaderOctet, OctetOrigin, origin};
 pub use placing::{Placed, place};
 
 // An edit is from, to and replacement length.
-#[derive(Drop)]
+#[derive(Clone, Copy)]
 pub struct Edit {
     pub from: usize,
     pub to: usize,

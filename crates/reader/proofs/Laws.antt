@@ -7,7 +7,6 @@ use Rattle.refusal.proofs.Laws.{fault_back, fault-back}
 use Rattle.refusal.proofs.Tight.{once}
 use Rattle.ump.specs.Reader as paper
 use Rattle.reader.specs.Meaning.{step_meaning, read_meaning, open_meaning}
-use Rattle.reader.specs.declared.Cursor.{Cursor}
 use Rattle.reader.specs.declared.Step.{Step}
 use Rattle.reader.specs.declared.Step.TheVariants.{Byte, Ended}
 use Rattle.reader.specs.declared.Read.{Read}

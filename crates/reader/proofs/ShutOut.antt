@@ -55,9 +55,9 @@ abbrev answer : Step → Cursor → Read
 answer step cursor = record { step = step; cursor = cursor }
 
 -- words that are lent, wherever they stand
-module _ (κs : Lfts 1) (ptr : ℕ × ℕ) (name : GName) where
-  abbrev lent : List ℕ → MutBor (List ℕ)
-  lent words = record { ref_ptr = ptr; ghost_name = name; now = words }
+module _ (κs : Lfts 1) (ptr : ℕ × ℕ) where
+  abbrev lent : List ℕ → Bor (List ℕ)
+  lent words = record { ref_ptr = ptr; now = words }
 
   module _ (s : AtExit (ended_of 1 next-kinds.ps next-kinds.r) κs) where
     -- octet 2, the stream id, as data
@@ -124,13 +124,13 @@ module _ (κs : Lfts 1) (ptr : ℕ × ℕ) (name : GName) where
 -- the methods over the held reader: a wrong outcome's promise is never met
 module _ {M : Type 1} {𝓤 : Ura M} (𝓛 : Logic 𝓤) (mem : Memory → SProp 𝓤) (run : Routine → Fun 𝓤)
     (κ κ' : Lft) (ptr : ℕ × ℕ) (name : GName) where
-  abbrev words : List ℕ → MutBor (List ℕ)
-  words ws = record { ref_ptr = ptr; ghost_name = name; now = ws }
+  abbrev words : List ℕ → Bor (List ℕ)
+  words ws = record { ref_ptr = ptr; now = ws }
 
   abbrev over : List ℕ → ℕ → ℕ → ℕ → PayloadReader
   over ws packet byte remaining = record { words = words ws; packet = packet; byte = byte; remaining = remaining }
 
-  abbrev self : PayloadReader → Bor PayloadReader
+  abbrev self : PayloadReader → MutBor PayloadReader
   self reader = record { ref_ptr = ptr; ghost_name = name; now = reader }
 
   module _ (s : AtExit held_new.ended (κ, tt)) where

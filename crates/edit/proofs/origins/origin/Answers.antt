@@ -1,0 +1,15 @@
+-- `edit::origins::origin`: the check, then an octet of a message that passed. Assumes nothing.
+use Rattle.std.proofs.Common.{sym}
+use Rattle.ump.specs.Packet.{sysex8}
+use Rattle.ump.proofs.Asking.{asked_refused}
+use Rattle.message.proofs.Checked.{taken, not_taken}
+use Rattle.edit.proofs.AtOnceCases.{checks_refused}
+use Rattle.edit.proofs.origins.origin.Goals as goal
+
+pub origin_checked-requires : goal.origin_checked-requires
+origin_checked-requires c = let m = taken sysex8 _ _ (sym c.in-Message.ensures) in record { passes = m.passes; sized = m.sized }
+
+pub returns-in-Refused : goal.returns-in-Refused
+returns-in-Refused c =
+    asked_refused _ _ _ _ _ _
+    (checks_refused _ _ c.args.numbers.now c.args.bytes.now (not_taken sysex8 _ _ (sym c.in-Refused.ensures)))

@@ -95,7 +95,7 @@ module _ (shape : Shape) (words : List ℕ) (p i value : ℕ) (there : shape.wor
           rw e (apart (λ o. omega arith) (side (place_octet shape k) (place_octet shape i)))
 
   size-after : size_at shape after p ≡ size_at shape words p
-  size-after = rw (store_headed p).count-stays
+  size-after = rw (store_headed p).count_stays
 
   -- byte i of the packet's payload is the value
   pub store_payload_at : payload_at shape after p ≡ set (payload_at shape words p) i value
@@ -128,7 +128,7 @@ module _ (shape : Shape) (words : List ℕ) (p i value : ℕ) (there : shape.wor
 
   pub store_other_payload_at : (q : ℕ) → q ≢ p → payload_at shape after q ≡ payload_at shape words q
   unfolding payload_at
-  store_other_payload_at q other = rw ((store_headed q).count-stays, store_other_packet q other)
+  store_other_payload_at q other = rw ((store_headed q).count_stays, store_other_packet q other)
 
   -- of n packets, it is the byte at the sizes of the packets before it plus i
   pub store_payload : (n : ℕ) → p < n

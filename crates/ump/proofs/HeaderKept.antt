@@ -29,7 +29,7 @@ id_stays shape x y same = go shape.ids same
     go (suc (suc ids)) h = rw (h 2 (omega arith) (omega arith), h 3 (omega arith) (omega arith))
 
 pub unchanged : (shape : Shape) (x : ℕ) → Headed shape x x (nibble x 1) (id_in shape x)
-unchanged shape x = record { type_stays = refl; group_is = refl; status_stays = refl; count-stays = refl; id_is = refl }
+unchanged shape x = record { type_stays = refl; group_is = refl; status_stays = refl; count_stays = refl; id_is = refl }
 
 -- a payload byte in the first word is set: the header stays
 pub byte_headed : (shape : Shape) (x q value : ℕ) → header shape ≤ q → q < 4 → value < 2 ^ shape.width
@@ -39,7 +39,7 @@ byte_headed shape x q value from below fits =
       type_stays = nibbles 0 (omega arith);
       group_is = nibbles 1 (omega arith);
       status_stays = nibbles 2 (omega arith);
-      count-stays = nibbles 3 (omega arith);
+      count_stays = nibbles 3 (omega arith);
       id_is = id_stays shape x _ (λ o h k. above (shift octet_field o) 8 (omega arith));
     }
   where
@@ -58,7 +58,7 @@ group_keeps shape x group fits =
         type_stays = part_past x 24 4 group fits (shift nibble_field 0) 4 (omega arith);
         group_is = part-set x 24 4 group fits;
         status_stays = below (shift nibble_field 2) 4 (omega arith);
-        count-stays = below (shift nibble_field 3) 4 (omega arith);
+        count_stays = below (shift nibble_field 3) 4 (omega arith);
         id_is = id_stays shape x _ (λ q h k. below (shift octet_field q) 8 (omega arith));
       };
       bytes_stay = λ q h k. below (shift octet_field q) shape.width (omega (arith, shape.width_fits));
@@ -75,7 +75,7 @@ id_keeps x id fits =
         type_stays = nibbles 0 (omega arith);
         group_is = nibbles 1 (omega arith);
         status_stays = nibbles 2 (omega arith);
-        count-stays = nibbles 3 (omega arith);
+        count_stays = nibbles 3 (omega arith);
         id_is = ap (λ (o : ℕ). o ∷ []) (part-set x 8 8 id fits);
       };
       bytes_stay = λ q h k. part_below x 8 8 id fits (shift octet_field q) 8 (omega arith);
@@ -125,7 +125,7 @@ module _ (shape : Shape) (words after : List ℕ) (len : ℕ) (groups : ℕ → 
         whole = valid.whole;
         types = λ p h. (headed_at p h).type_stays ∙ valid.types p h;
         statuses = λ p h. (headed_at p h).status_stays ∙ valid.statuses p h;
-        counts = λ p h. rw (headed_at p h).count-stays (valid.counts p h);
+        counts = λ p h. rw (headed_at p h).count_stays (valid.counts p h);
         groups = λ p h. (headed_at p h).group_is ∙ sym first.group_is;
         one_id = λ p h. (headed_at p h).id_is ∙ sym first.id_is;
       }

@@ -91,7 +91,7 @@ module _ (shape : Shape) (f group : ℕ → ℕ) (id : ℕ → List ℕ) (keeps 
   heads_payload_at : (p : ℕ) → p < n → payload_at shape changed p ≡ payload_at shape words p
   heads_payload_at p below =
       let there = inside_words shape words n p whole below in
-      let size : size_at shape changed p ≡ size_at shape words p = rw (heads_headed p below).count-stays in
+      let size : size_at shape changed p ≡ size_at shape words p = rw (heads_headed p below).count_stays in
       payload_at_is shape changed p (rw (heads_length shape f words n) there) _
       (length-payload_at shape words p there ∙ sym size)
       (λ i h.

@@ -11,7 +11,7 @@ pub record Headed (shape : Shape) (x y group : ℕ) (id : List ℕ) : Type 0 whe
   pub type_stays : nibble y 0 ≡ nibble x 0
   pub group_is : nibble y 1 ≡ group
   pub status_stays : nibble y 2 ≡ nibble x 2
-  pub count-stays : nibble y 3 ≡ nibble x 3
+  pub count_stays : nibble y 3 ≡ nibble x 3
   pub id_is : id_in shape y ≡ id
 
 -- the same of packet p, where words have become after

@@ -3,7 +3,7 @@ use mathlib.Core.Path.{refl, sym, ap, ◌∙◌}
 use mathlib.Core.List.{List, []}
 use Prim.Native.Nat.{ℕ}
 use Rattle.refusal.specs.Answer.{Answer}
-use Rattle.refusal.specs.Tight.{lent}
+use Rattle.refusal.specs.Tight.{lent, lent_mut}
 use Rattle.chain.specs.Chained.{Chained, PromisedChain}
 use Rattle.chain.specs.Audit.{AuditedDump}
 use Rattle.chain.proofs.Named.{restore_named, describe_named}
@@ -24,9 +24,9 @@ promised =
           let meant = restored_meant answer (rw (ap (λ (o : Answer ℕ × List ℕ). o.0) e) at (restore_named store n words)) in
           record {
             lifetimes = ([], ([], tt));
-            arguments = (lent store, (n, (lent words, tt)));
+            arguments = (lent store, (n, (lent_mut words, tt)));
             said = restored_back answer;
-            exit = (lent store, (n, (lent left, tt)));
+            exit = (lent store, (n, (lent_mut left, tt)));
             promise = ap (λ (a : Answer ℕ). (a, left)) meant ∙ sym e;
             given = (refl, refl, refl);
             answer_is = meant;

@@ -1,5 +1,8 @@
 -- Wrong outcomes of `restore` that its promise shuts out, each on a concrete store. Assumes nothing.
-use mathlib.Core.Path.{◌≡◌, ap}
+use mathlib.Core.Path.{◌≡◌, refl, ap, ◌∙◌}
+use mathlib.Core.Bool.{Bool, false, not}
+use lib.Dec.{T, eqb}
+use Rattle.refusal.specs.Answer.{gives, refused}
 use mathlib.Core.List.{List, ◌∷◌, ◌++◌}
 use Prim.Native.Nat.{ℕ}
 use lib.ListN.{get_or}
@@ -17,6 +20,7 @@ use Rattle.store.specs.Store.{is_data, body_size, records_after, follows_by, all
 use Rattle.store.specs.Samples.{one, two, bare}
 use Rattle.chain.specs.Restore as paper
 use Rattle.chain.specs.Samples.{sevens, shorter, growing}
+use Rattle.restore.specs.Meaning.{restored_meaning}
 use Rattle.restore.specs.declared.Restored.{Restored}
 use Rattle.restore.specs.declared.Restored.TheVariants as restored
 use Rattle.restore.proofs.restore.Kinds as restore-kinds
@@ -49,16 +53,58 @@ record Outcomes : Type 0 where
   kept : Left (bare 3 3) 3 4 0 0
   base_words : Left (two ++ one) 2 4 0 0x52030741
 
-shut_out : Outcomes
+-- what is answered there
+chain_is : (paper.restore (two ++ one) 2 (sevens 4)).0 ≡ gives 4
 unfolding is_data body_size records_after follows_by allowed_by well_formed data_in patches_in dump_of dumps_in held twice sound paper.roomed paper.outside paper.rebuilt paper.restored paper.laid_out paper.restore pack packs packs_at packets_for frame status_for joined words_of replaced
+chain_is = refl
+
+ring_is : (paper.restore (bare 3 3) 3 (sevens 4)).0 ≡ refused 25 0
+unfolding is_data body_size records_after follows_by allowed_by well_formed data_in patches_in dump_of dumps_in held twice sound paper.roomed paper.outside paper.rebuilt paper.restored paper.laid_out paper.restore pack packs packs_at packets_for frame status_for joined words_of replaced
+ring_is = refl
+
+abbrev Others : List ℕ → ℕ → ℕ → Restored → Type 0
+Others store number n answer =
+    eqb (told (λ (n : ℕ). n) (restored_meaning answer)) (told (λ (n : ℕ). n) (paper.restore store number (sevens n)).0) ≡ false
+
+abbrev Puts : List ℕ → ℕ → ℕ → ℕ → ℕ → Type 0
+Puts store number n index word = eqb word (get_or (paper.restore store number (sevens n)).1 index 0) ≡ false
+
+beside_other : Others (one ++ bare 3 3) 1 4 (refuse Ring)
+unfolding is_data body_size records_after follows_by allowed_by well_formed data_in patches_in dump_of dumps_in held twice sound paper.roomed paper.outside paper.rebuilt paper.restored paper.laid_out paper.restore pack packs packs_at packets_for frame status_for joined words_of replaced
+beside_other = refl
+
+middle_other : Others growing 2 4 (refuse Room)
+unfolding is_data body_size records_after follows_by allowed_by well_formed data_in patches_in dump_of dumps_in held twice sound paper.roomed paper.outside paper.rebuilt paper.restored paper.laid_out paper.restore pack packs packs_at packets_for frame status_for joined words_of replaced
+middle_other = refl
+
+base_other : Others shorter 2 4 (restored.Words 4)
+unfolding is_data body_size records_after follows_by allowed_by well_formed data_in patches_in dump_of dumps_in held twice sound paper.roomed paper.outside paper.rebuilt paper.restored paper.laid_out paper.restore pack packs packs_at packets_for frame status_for joined words_of replaced
+base_other = refl
+
+past_other : Puts one 1 6 5 7
+unfolding is_data body_size records_after follows_by allowed_by well_formed data_in patches_in dump_of dumps_in held twice sound paper.roomed paper.outside paper.rebuilt paper.restored paper.laid_out paper.restore pack packs packs_at packets_for frame status_for joined words_of replaced
+past_other = refl
+
+kept_other : Puts (bare 3 3) 3 4 0 0
+unfolding is_data body_size records_after follows_by allowed_by well_formed data_in patches_in dump_of dumps_in held twice sound paper.roomed paper.outside paper.rebuilt paper.restored paper.laid_out paper.restore pack packs packs_at packets_for frame status_for joined words_of replaced
+kept_other = refl
+
+base_words_other : Puts (two ++ one) 2 4 0 0x52030741
+unfolding is_data body_size records_after follows_by allowed_by well_formed data_in patches_in dump_of dumps_in held twice sound paper.roomed paper.outside paper.rebuilt paper.restored paper.laid_out paper.restore pack packs packs_at packets_for frame status_for joined words_of replaced
+base_words_other = refl
+
+other : {b : Bool} → b ≡ false → T (not b)
+other e = rw e tt
+
+shut_out : Outcomes
 shut_out =
     record {
-      chains = λ fault κs a x s w p. never_refused (ap (λ o. o.0) (rw (w.0, w.1, w.2, w.3) at p));
-      beside = λ κs a x s w p. differ (told (λ (n : ℕ). n)) tt (ap (λ o. o.0) (rw (w.0, w.1, w.2, w.3) at p));
-      ring = λ words κs a x s w p. never_both (ap (λ o. o.0) (rw (w.0, w.1, w.2, w.3) at p));
-      middle = λ κs a x s w p. differ (told (λ (n : ℕ). n)) tt (ap (λ o. o.0) (rw (w.0, w.1, w.2, w.3) at p));
-      base = λ κs a x s w p. differ (told (λ (n : ℕ). n)) tt (ap (λ o. o.0) (rw (w.0, w.1, w.2, w.3) at p));
-      past = λ κs a x s w p. differ (λ (n : ℕ). n) tt (rw w.3 at (ap (λ o. get_or o.1 5 0) (rw (w.0, w.1, w.2) at p)));
-      kept = λ κs a x s w p. differ (λ (n : ℕ). n) tt (rw w.3 at (ap (λ o. get_or o.1 0 0) (rw (w.0, w.1, w.2) at p)));
-      base_words = λ κs a x s w p. differ (λ (n : ℕ). n) tt (rw w.3 at (ap (λ o. get_or o.1 0 0) (rw (w.0, w.1, w.2) at p)));
+      chains = λ fault κs a x s w p. never_refused (ap (λ o. o.0) (rw (w.0, w.1, w.2, w.3) at p) ∙ chain_is);
+      beside = λ κs a x s w p. differ (told (λ (n : ℕ). n)) (other beside_other) (ap (λ o. o.0) (rw (w.0, w.1, w.2, w.3) at p));
+      ring = λ words κs a x s w p. never_both (ap (λ o. o.0) (rw (w.0, w.1, w.2, w.3) at p) ∙ ring_is);
+      middle = λ κs a x s w p. differ (told (λ (n : ℕ). n)) (other middle_other) (ap (λ o. o.0) (rw (w.0, w.1, w.2, w.3) at p));
+      base = λ κs a x s w p. differ (told (λ (n : ℕ). n)) (other base_other) (ap (λ o. o.0) (rw (w.0, w.1, w.2, w.3) at p));
+      past = λ κs a x s w p. differ (λ (n : ℕ). n) (other past_other) (rw w.3 at (ap (λ o. get_or o.1 5 0) (rw (w.0, w.1, w.2) at p)));
+      kept = λ κs a x s w p. differ (λ (n : ℕ). n) (other kept_other) (rw w.3 at (ap (λ o. get_or o.1 0 0) (rw (w.0, w.1, w.2) at p)));
+      base_words = λ κs a x s w p. differ (λ (n : ℕ). n) (other base_words_other) (rw w.3 at (ap (λ o. get_or o.1 0 0) (rw (w.0, w.1, w.2) at p)));
     }

@@ -21,6 +21,10 @@ FOLDERS = ("crates",)
 LEMMAS = ["end_before", "found_back", "in_bytes", "listed_back", "moved_back", "number_read", "set_back", "store_byte", "stored_back",
           "written_back"]
 
+# names that a `use` line or a local definition gives
+ALIASES = ["describeOf", "restoreOf", "originFor", "spliceOf", "repackOf", "setPayloadOf", "readerOf", "tooLong", "replacementAt", "collectOf",
+           "wordsOf'", "editOf'", "numberOf", "shareOf", "runFrom"]
+
 # names of the repository's own that are the library's too
 LIBRARY = ["and-false", "and-true"]
 
@@ -130,14 +134,13 @@ def main():
     to, stays = renames(texts, None)
     for path, text in texts.items():
         mine = {a: b for a, b in to.items() if path.endswith(".antt") or is_camel(a)}
-        now = respell(text, mine, path)
+        now = respell(text, mine | {name: snake(name) for name in ALIASES}, path)
+        now = re.sub(r"(?m)^(?:pub )?use [^\s{]+", lambda m: re.sub(r"\.(%s)_lem(?=\.|$)" % "|".join(LEMMAS), r".\1", m.group(0)), now)
         if path.endswith(".edit"):
             now = now.replace("′", "'")
         with open(path, "w", encoding="utf-8") as f:
             f.write(now)
     print(f"respell: {len(to)} names; {len(stays)} keep a dash: {', '.join(stays)}")
-    with open("/tmp/respelled.txt", "w") as f:
-        f.writelines(f"{a} {b}\n" for a, b in sorted(to.items()))
 
 
 main()

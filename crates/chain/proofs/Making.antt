@@ -25,11 +25,11 @@ use Rattle.chain.proofs.Outside.{or_false}
 abbrev pub rebuilt_from : List Patch → Payload → Payload
 rebuilt_from patches base = record { group = base.group; id = base.id; bytes = replaced base.bytes patches }
 
-pub record OfBase (tooLong : ℕ → Bool) (base : Answer Payload) (patches : List Patch) (payload : Payload) : Type 0 where
+pub record OfBase (too_long : ℕ → Bool) (base : Answer Payload) (patches : List Patch) (payload : Payload) : Type 0 where
   pub old : Payload
   pub is_base : base ≡ gives old
   pub good : outside (length old.bytes) patches ≡ false
-  pub room : tooLong (length payload.bytes) ≡ false
+  pub room : too_long (length payload.bytes) ≡ false
   pub is : rebuilt_from patches old ≡ payload
 
 -- its group, id and bytes are such as a message has
@@ -39,28 +39,28 @@ pub record Fitting (p : Payload) : Type 0 where
   pub bytes : Below 256 p.bytes
 
 -- a whole dump's data, or a delta's edits done on its base
-pub data Made (tooLong : ℕ → Bool) (ds : List Dump) (left n : ℕ) (payload : Payload) : Type 0 where
-  of_whole : (group id : ℕ) (bytes : List ℕ) → held ds n ≡ some (whole n group id bytes) → tooLong (length payload.bytes) ≡ false
-      → record { group = group; id = id; bytes = bytes } ≡ payload → Made tooLong ds left n payload
+pub data Made (too_long : ℕ → Bool) (ds : List Dump) (left n : ℕ) (payload : Payload) : Type 0 where
+  of_whole : (group id : ℕ) (bytes : List ℕ) → held ds n ≡ some (whole n group id bytes) → too_long (length payload.bytes) ≡ false
+      → record { group = group; id = id; bytes = bytes } ≡ payload → Made too_long ds left n payload
   of_delta : (base : ℕ) (patches : List Patch) → held ds n ≡ some (delta n base patches)
-      → OfBase tooLong (restored tooLong ds left base) patches payload → Made tooLong ds left n payload
+      → OfBase too_long (restored too_long ds left base) patches payload → Made too_long ds left n payload
 
-module _ (tooLong : ℕ → Bool) where
-  roomed_given : (p : Payload) {q : Payload} → roomed tooLong p ≡ gives q → (tooLong (length q.bytes) ≡ false) × (p ≡ q)
+module _ (too_long : ℕ → Bool) where
+  roomed_given : (p : Payload) {q : Payload} → roomed too_long p ≡ gives q → (too_long (length q.bytes) ≡ false) × (p ≡ q)
   unfolding roomed
   roomed_given p {q} e =
-      let g = given_passes (guard (tooLong (length p.bytes)) 14 0) e in
+      let g = given_passes (guard (too_long (length p.bytes)) 14 0) e in
       let same : p ≡ q = g.1 in
-      (rw same at (guard_passed (tooLong (length p.bytes)) 14 0 g.0), same)
+      (rw same at (guard_passed (too_long (length p.bytes)) 14 0 g.0), same)
 
-  rebuilt_given : (patches : List Patch) (base : Answer Payload) {q : Payload} → rebuilt tooLong patches base ≡ gives q
-      → OfBase tooLong base patches q
+  rebuilt_given : (patches : List Patch) (base : Answer Payload) {q : Payload} → rebuilt too_long patches base ≡ gives q
+      → OfBase too_long base patches q
   unfolding rebuilt
   rebuilt_given patches (refused number place) e = never_refused e
   rebuilt_given patches (gives base) {q} e = go (outside (length base.bytes) patches) refl e
     where
-      go : (b : Bool) → outside (length base.bytes) patches ≡ b → guard b 13 0 ▷ roomed tooLong (rebuilt_from patches base) ≡ gives q
-          → OfBase tooLong (gives base) patches q
+      go : (b : Bool) → outside (length base.bytes) patches ≡ b → guard b 13 0 ▷ roomed too_long (rebuilt_from patches base) ≡ gives q
+          → OfBase too_long (gives base) patches q
       go true o h = never_refused h
       go false o h =
           let r = roomed_given (rebuilt_from patches base) h in
@@ -69,16 +69,16 @@ module _ (tooLong : ℕ → Bool) where
   module _ (ds : List Dump) where
     -- the delta held under a number
     pub made_delta : (left n : ℕ) {number base : ℕ} {patches : List Patch} {p : Payload} → held ds n ≡ some (delta number base patches)
-        → restored tooLong ds (suc left) n ≡ gives p → OfBase tooLong (restored tooLong ds left base) patches p
+        → restored too_long ds (suc left) n ≡ gives p → OfBase too_long (restored too_long ds left base) patches p
     unfolding restored
-    made_delta left n {base = base} {patches = patches} t e = rebuilt_given patches (restored tooLong ds left base) (rw t at e)
+    made_delta left n {base = base} {patches = patches} t e = rebuilt_given patches (restored too_long ds left base) (rw t at e)
 
-    pub made : (left n : ℕ) {p : Payload} → restored tooLong ds (suc left) n ≡ gives p → Made tooLong ds left n p
+    pub made : (left n : ℕ) {p : Payload} → restored too_long ds (suc left) n ≡ gives p → Made too_long ds left n p
     unfolding restored
     made left n {p} e = go (held ds n) refl e
       where
-        go : (o : Option Dump) → held ds n ≡ o → restored_by tooLong (λ b. restored tooLong ds left b) o ≡ gives p
-            → Made tooLong ds left n p
+        go : (o : Option Dump) → held ds n ≡ o → restored_by too_long (λ b. restored too_long ds left b) o ≡ gives p
+            → Made too_long ds left n p
         go none t h = never_refused h
         go (some (whole number group id bytes)) t h =
             let same : number ≡ n = held_is ds n t in
@@ -86,15 +86,15 @@ module _ (tooLong : ℕ → Bool) where
             of_whole group id bytes (rw same at t) r.0 r.1
         go (some (delta number base patches)) t h =
             let same : number ≡ n = held_is ds n t in
-            of_delta base patches (rw same at t) (rebuilt_given patches (restored tooLong ds left base) h)
+            of_delta base patches (rw same at t) (rebuilt_given patches (restored too_long ds left base) h)
 
     -- it is not too long
-    pub given_room : (left n : ℕ) {p : Payload} → restored tooLong ds left n ≡ gives p → tooLong (length p.bytes) ≡ false
+    pub given_room : (left n : ℕ) {p : Payload} → restored too_long ds left n ≡ gives p → too_long (length p.bytes) ≡ false
     unfolding restored
     given_room zero n e = never_refused e
     given_room (suc left) n {p} e = go (made left n e)
       where
-        go : Made tooLong ds left n p → tooLong (length p.bytes) ≡ false
+        go : Made too_long ds left n p → too_long (length p.bytes) ≡ false
         go (of_whole group id bytes t r s) = r
         go (of_delta base patches t b) = b.room
 
@@ -104,28 +104,28 @@ module _ (tooLong : ℕ → Bool) where
         → P (record { group = group; id = id; bytes = bytes }))
         (next : (n base : ℕ) (patches : List Patch) → held ds n ≡ some (delta n base patches) → (old : Payload) → P old
         → P (rebuilt_from patches old)) where
-      made_all : (left n : ℕ) {p : Payload} → restored tooLong ds left n ≡ gives p → P p
+      made_all : (left n : ℕ) {p : Payload} → restored too_long ds left n ≡ gives p → P p
       unfolding restored
       made_all zero n e = never_refused e
       made_all (suc left) n {p} e = go (λ b q h. made_all left b {p = q} h) (made left n e)
         where
-          go : ((b : ℕ) (q : Payload) → restored tooLong ds left b ≡ gives q → P q) → Made tooLong ds left n p → P p
+          go : ((b : ℕ) (q : Payload) → restored too_long ds left b ≡ gives q → P q) → Made too_long ds left n p → P p
           go more (of_whole group id bytes t r s) = rw s at (first n group id bytes t)
           go more (of_delta base patches t b) = rw b.is at (next n base patches t b.old (more base b.old b.is_base))
 
     -- ---- a restored dump fits a message
 
-    pub given_group : All Formed ds → (left n : ℕ) {p : Payload} → restored tooLong ds left n ≡ gives p → p.group < 16
+    pub given_group : All Formed ds → (left n : ℕ) {p : Payload} → restored too_long ds left n ≡ gives p → p.group < 16
     given_group a =
         made_all (λ p. p.group < 16) (λ n group id bytes t. held_all Formed ds n a t) (λ n base patches t old h. h)
 
-    given_bytes : All OfBytes ds → (left n : ℕ) {p : Payload} → restored tooLong ds left n ≡ gives p → (p.id < 256) × Below 256 p.bytes
+    given_bytes : All OfBytes ds → (left n : ℕ) {p : Payload} → restored too_long ds left n ≡ gives p → (p.id < 256) × Below 256 p.bytes
     given_bytes a =
         made_all (λ p. (p.id < 256) × Below 256 p.bytes) (λ n group id bytes t. held_all OfBytes ds n a t)
         (λ n base patches t old h.
         (h.0, below_replaced 256 old.bytes patches h.1 (λ k l. bytes_at patches k (held_all OfBytes ds n a t))))
 
-    pub fitting : All Formed ds → All OfBytes ds → (left n : ℕ) {p : Payload} → restored tooLong ds left n ≡ gives p → Fitting p
+    pub fitting : All Formed ds → All OfBytes ds → (left n : ℕ) {p : Payload} → restored too_long ds left n ≡ gives p → Fitting p
     fitting a b left n e = let c = given_bytes b left n e in record { group = given_group a left n e; id = c.0; bytes = c.1 }
 
 -- ---- edits in order and inside are apart

@@ -15,24 +15,24 @@ use Rattle.store.specs.Store.{Dump, whole, delta, dumps_of, held}
 use Rattle.store.proofs.Checks.{sound_named}
 use Rattle.chain.specs.Restore.{Payload, exceeds, roomed, outside, rebuilt, restored_by, restored, restore, unlimited, described, describe}
 
-roomed_named : (tooLong : ℕ → Bool) (p : Payload) → Named (roomed tooLong p)
+roomed_named : (too_long : ℕ → Bool) (p : Payload) → Named (roomed too_long p)
 unfolding roomed
-roomed_named tooLong p = by_both _ _ (by_guard (tooLong (length p.bytes)) Room 0) accepted
+roomed_named too_long p = by_both _ _ (by_guard (too_long (length p.bytes)) Room 0) accepted
 
-rebuilt_named : (tooLong : ℕ → Bool) (patches : List Patch) (base : Answer Payload) → Named base → Named (rebuilt tooLong patches base)
+rebuilt_named : (too_long : ℕ → Bool) (patches : List Patch) (base : Answer Payload) → Named base → Named (rebuilt too_long patches base)
 unfolding rebuilt
-rebuilt_named tooLong patches (gives p) h = by_both _ _ (by_guard (outside (length p.bytes) patches) Range 0) (roomed_named tooLong _)
-rebuilt_named tooLong patches (refused number place) (named r) = named r
+rebuilt_named too_long patches (gives p) h = by_both _ _ (by_guard (outside (length p.bytes) patches) Range 0) (roomed_named too_long _)
+rebuilt_named too_long patches (refused number place) (named r) = named r
 
-pub restored_named : (tooLong : ℕ → Bool) (ds : List Dump) (left n : ℕ) → Named (restored tooLong ds left n)
+pub restored_named : (too_long : ℕ → Bool) (ds : List Dump) (left n : ℕ) → Named (restored too_long ds left n)
 unfolding restored
-restored_named tooLong ds zero n = named Ring
-restored_named tooLong ds (suc left) n = go (λ b. restored_named tooLong ds left b) (held ds n)
+restored_named too_long ds zero n = named Ring
+restored_named too_long ds (suc left) n = go (λ b. restored_named too_long ds left b) (held ds n)
   where
-    go : ((b : ℕ) → Named (restored tooLong ds left b)) → (o : Option Dump) → Named (restored_by tooLong (λ b. restored tooLong ds left b) o)
+    go : ((b : ℕ) → Named (restored too_long ds left b)) → (o : Option Dump) → Named (restored_by too_long (λ b. restored too_long ds left b) o)
     go more none = named Missing
-    go more (some (whole number group id bytes)) = roomed_named tooLong _
-    go more (some (delta number base patches)) = rebuilt_named tooLong patches _ (more base)
+    go more (some (whole number group id bytes)) = roomed_named too_long _
+    go more (some (delta number base patches)) = rebuilt_named too_long patches _ (more base)
 
 mapped_named : {A B : Type 0} (f : A → B) (answer : Answer A) → Named answer → Named (map_answer f answer)
 mapped_named f (gives a) h = accepted

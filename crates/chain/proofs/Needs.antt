@@ -23,39 +23,39 @@ use Rattle.chain.proofs.Making.{rebuilt_from, Made, of_whole, of_delta, made}
 
 -- ---- a payload that is not too long, and a delta of one
 
-pub roomed_is : (tooLong : ℕ → Bool) (p : Payload) → tooLong (length p.bytes) ≡ false → roomed tooLong p ≡ gives p
+pub roomed_is : (too_long : ℕ → Bool) (p : Payload) → too_long (length p.bytes) ≡ false → roomed too_long p ≡ gives p
 unfolding roomed
-roomed_is tooLong p e = rw e
+roomed_is too_long p e = rw e
 
-roomed_either : (tooLong : ℕ → Bool) (p : Payload) → (roomed tooLong p ≡ gives p) ⊎ (roomed tooLong p ≡ refused 14 0)
+roomed_either : (too_long : ℕ → Bool) (p : Payload) → (roomed too_long p ≡ gives p) ⊎ (roomed too_long p ≡ refused 14 0)
 unfolding roomed
-roomed_either tooLong p = go (tooLong (length p.bytes))
+roomed_either too_long p = go (too_long (length p.bytes))
   where
     go : (b : Bool) → (guard b 14 0 ▷ gives p ≡ gives p) ⊎ (guard b 14 0 ▷ gives p ≡ refused 14 0)
     go true = inr refl
     go false = inl refl
 
-rebuilt-roomed : (tooLong : ℕ → Bool) (patches : List Patch) (base : Payload) {answer : Answer Payload} → answer ≡ gives base
-    → outside (length base.bytes) patches ≡ false → rebuilt tooLong patches answer ≡ roomed tooLong (rebuilt_from patches base)
+rebuilt-roomed : (too_long : ℕ → Bool) (patches : List Patch) (base : Payload) {answer : Answer Payload} → answer ≡ gives base
+    → outside (length base.bytes) patches ≡ false → rebuilt too_long patches answer ≡ roomed too_long (rebuilt_from patches base)
 unfolding rebuilt
-rebuilt-roomed tooLong patches base g o = rw (g, o)
+rebuilt-roomed too_long patches base g o = rw (g, o)
 
-rebuilt_is : (tooLong : ℕ → Bool) (patches : List Patch) (base : Payload) {answer : Answer Payload} → answer ≡ gives base
-    → outside (length base.bytes) patches ≡ false → tooLong (length (replaced base.bytes patches)) ≡ false
-    → rebuilt tooLong patches answer ≡ gives (rebuilt_from patches base)
-rebuilt_is tooLong patches base g o r = rebuilt-roomed tooLong patches base g o ∙ roomed_is tooLong (rebuilt_from patches base) r
+rebuilt_is : (too_long : ℕ → Bool) (patches : List Patch) (base : Payload) {answer : Answer Payload} → answer ≡ gives base
+    → outside (length base.bytes) patches ≡ false → too_long (length (replaced base.bytes patches)) ≡ false
+    → rebuilt too_long patches answer ≡ gives (rebuilt_from patches base)
+rebuilt_is too_long patches base g o r = rebuilt-roomed too_long patches base g o ∙ roomed_is too_long (rebuilt_from patches base) r
 
-rebuilt_range : (tooLong : ℕ → Bool) (patches : List Patch) (base : Payload) {answer : Answer Payload} → answer ≡ gives base
-    → outside (length base.bytes) patches ≡ true → rebuilt tooLong patches answer ≡ refused 13 0
+rebuilt_range : (too_long : ℕ → Bool) (patches : List Patch) (base : Payload) {answer : Answer Payload} → answer ≡ gives base
+    → outside (length base.bytes) patches ≡ true → rebuilt too_long patches answer ≡ refused 13 0
 unfolding rebuilt
-rebuilt_range tooLong patches base g o = rw (g, o)
+rebuilt_range too_long patches base g o = rw (g, o)
 
 -- ---- with a limit and without one
 
 -- none of these is too long
 abbrev pub AllFit : (ℕ → Bool) → List ℕ → Type 0
-AllFit tooLong [] = Unit {0}
-AllFit tooLong (n ∷ ns) = (tooLong n ≡ false) × AllFit tooLong ns
+AllFit too_long [] = Unit {0}
+AllFit too_long (n ∷ ns) = (too_long n ≡ false) × AllFit too_long ns
 
 -- this payload, or no room
 abbrev pub GivenOr : Payload → Answer Payload → Type 0
@@ -65,22 +65,22 @@ GivenOr p answer = (answer ≡ gives p) ⊎ (answer ≡ refused 14 0)
 abbrev pub RefusedOr : ℕ → ℕ → Answer Payload → Type 0
 RefusedOr number place answer = (answer ≡ refused number place) ⊎ ((number ≡ 13) × (answer ≡ refused 14 0))
 
-module _ (tooLong : ℕ → Bool) (ds : List Dump) where
+module _ (too_long : ℕ → Bool) (ds : List Dump) where
   -- what is given with a limit is given without one, and no payload on the way is too long
-  pub given_fits : (left n : ℕ) {p : Payload} → restored tooLong ds left n ≡ gives p
-      → (restored unlimited ds left n ≡ gives p) × AllFit tooLong (sizes ds left n)
+  pub given_fits : (left n : ℕ) {p : Payload} → restored too_long ds left n ≡ gives p
+      → (restored unlimited ds left n ≡ gives p) × AllFit too_long (sizes ds left n)
   unfolding restored sizes
   given_fits zero n e = never_refused e
-  given_fits (suc left) n {p} e = go (λ b q h. given_fits left b h) (made tooLong ds left n e)
+  given_fits (suc left) n {p} e = go (λ b q h. given_fits left b h) (made too_long ds left n e)
     where
-      fits : {a : Answer Payload} → a ≡ gives p → tooLong (length p.bytes) ≡ false → (ns : List ℕ) → AllFit tooLong ns
-          → (a ≡ gives p) × AllFit tooLong (payload_size a ∷ ns)
-      fits i r ns f = (i, (ap (λ (a : Answer Payload). tooLong (payload_size a)) i ∙ r, f))
+      fits : {a : Answer Payload} → a ≡ gives p → too_long (length p.bytes) ≡ false → (ns : List ℕ) → AllFit too_long ns
+          → (a ≡ gives p) × AllFit too_long (payload_size a ∷ ns)
+      fits i r ns f = (i, (ap (λ (a : Answer Payload). too_long (payload_size a)) i ∙ r, f))
 
-      go : ((b : ℕ) (q : Payload) → restored tooLong ds left b ≡ gives q
-          → (restored unlimited ds left b ≡ gives q) × AllFit tooLong (sizes ds left b)) → Made tooLong ds left n p
+      go : ((b : ℕ) (q : Payload) → restored too_long ds left b ≡ gives q
+          → (restored unlimited ds left b ≡ gives q) × AllFit too_long (sizes ds left b)) → Made too_long ds left n p
           → (restored_by unlimited (λ b. restored unlimited ds left b) (held ds n) ≡ gives p)
-          × AllFit tooLong
+          × AllFit too_long
           (payload_size (restored_by unlimited (λ b. restored unlimited ds left b) (held ds n))
           ∷ from_base [] (λ b. sizes ds left b) (base_of (held ds n)))
       go more (of_whole group id bytes t r s) = rw t (fits (roomed_is unlimited _ refl ∙ ap gives s) r [] tt)
@@ -90,76 +90,76 @@ module _ (tooLong : ℕ → Bool) (ds : List Dump) where
           rw t (fits is b.room (sizes ds left base) m.1)
 
   -- and the other way round
-  pub fits_given : (left n : ℕ) {p : Payload} → restored unlimited ds left n ≡ gives p → AllFit tooLong (sizes ds left n)
-      → restored tooLong ds left n ≡ gives p
+  pub fits_given : (left n : ℕ) {p : Payload} → restored unlimited ds left n ≡ gives p → AllFit too_long (sizes ds left n)
+      → restored too_long ds left n ≡ gives p
   unfolding restored sizes
   fits_given zero n e f = never_refused e
   fits_given (suc left) n {p} e f =
       go (λ b q h g. fits_given left b h g) (made unlimited ds left n e) (rw e at f.0) f.1
     where
-      go : ((b : ℕ) (q : Payload) → restored unlimited ds left b ≡ gives q → AllFit tooLong (sizes ds left b)
-          → restored tooLong ds left b ≡ gives q) → Made unlimited ds left n p → tooLong (length p.bytes) ≡ false
-          → AllFit tooLong (from_base [] (λ b. sizes ds left b) (base_of (held ds n)))
-          → restored_by tooLong (λ b. restored tooLong ds left b) (held ds n) ≡ gives p
+      go : ((b : ℕ) (q : Payload) → restored unlimited ds left b ≡ gives q → AllFit too_long (sizes ds left b)
+          → restored too_long ds left b ≡ gives q) → Made unlimited ds left n p → too_long (length p.bytes) ≡ false
+          → AllFit too_long (from_base [] (λ b. sizes ds left b) (base_of (held ds n)))
+          → restored_by too_long (λ b. restored too_long ds left b) (held ds n) ≡ gives p
       go more (of_whole group id bytes t r s) k g =
-          rw t (roomed_is tooLong _ (ap (λ (x : Payload). tooLong (length x.bytes)) s ∙ k) ∙ ap gives s)
+          rw t (roomed_is too_long _ (ap (λ (x : Payload). too_long (length x.bytes)) s ∙ k) ∙ ap gives s)
       go more (of_delta base patches t b) k g =
           rw t
-          (rebuilt_is tooLong patches b.old (more base b.old b.is_base (rw t at g)) b.good
-          (ap (λ (x : Payload). tooLong (length x.bytes)) b.is ∙ k)
+          (rebuilt_is too_long patches b.old (more base b.old b.is_base (rw t at g)) b.good
+          (ap (λ (x : Payload). too_long (length x.bytes)) b.is ∙ k)
           ∙ ap gives b.is)
 
   -- what is given without a limit is given with one, or has no room
   pub given_either : (left n : ℕ) {p : Payload} → restored unlimited ds left n ≡ gives p
-      → GivenOr p (restored tooLong ds left n)
+      → GivenOr p (restored too_long ds left n)
   unfolding restored
   given_either zero n e = never_refused e
   given_either (suc left) n {p} e = go (λ b q h. given_either left b h) (made unlimited ds left n e)
     where
-      go : ((b : ℕ) (q : Payload) → restored unlimited ds left b ≡ gives q → GivenOr q (restored tooLong ds left b))
-          → Made unlimited ds left n p → GivenOr p (restored_by tooLong (λ b. restored tooLong ds left b) (held ds n))
-      go more (of_whole group id bytes t r s) = rw (t, ← s) (roomed_either tooLong _)
+      go : ((b : ℕ) (q : Payload) → restored unlimited ds left b ≡ gives q → GivenOr q (restored too_long ds left b))
+          → Made unlimited ds left n p → GivenOr p (restored_by too_long (λ b. restored too_long ds left b) (held ds n))
+      go more (of_whole group id bytes t r s) = rw (t, ← s) (roomed_either too_long _)
       go more (of_delta base patches t b) = rw (t, ← b.is) (from (more base b.old b.is_base))
         where
-          from : GivenOr b.old (restored tooLong ds left base)
-              → GivenOr (rebuilt_from patches b.old) (rebuilt tooLong patches (restored tooLong ds left base))
-          from (inl g) = rw (rebuilt-roomed tooLong patches b.old g b.good) (roomed_either tooLong (rebuilt_from patches b.old))
-          from (inr g) = inr (rebuilt_refused tooLong patches g)
+          from : GivenOr b.old (restored too_long ds left base)
+              → GivenOr (rebuilt_from patches b.old) (rebuilt too_long patches (restored too_long ds left base))
+          from (inl g) = rw (rebuilt-roomed too_long patches b.old g b.good) (roomed_either too_long (rebuilt_from patches b.old))
+          from (inr g) = inr (rebuilt_refused too_long patches g)
 
   -- what is refused without a limit is refused with one
   pub refused_either : (left n : ℕ) {number place : ℕ} → restored unlimited ds left n ≡ refused number place
-      → RefusedOr number place (restored tooLong ds left n)
+      → RefusedOr number place (restored too_long ds left n)
   unfolding restored
   refused_either zero n e = inl e
   refused_either (suc left) n {number} {place} e = go (λ b h. refused_either left b h) (held ds n) e
     where
-      go : ((b : ℕ) → restored unlimited ds left b ≡ refused number place → RefusedOr number place (restored tooLong ds left b))
+      go : ((b : ℕ) → restored unlimited ds left b ≡ refused number place → RefusedOr number place (restored too_long ds left b))
           → (o : Option Dump) → restored_by unlimited (λ b. restored unlimited ds left b) o ≡ refused number place
-          → RefusedOr number place (restored_by tooLong (λ b. restored tooLong ds left b) o)
+          → RefusedOr number place (restored_by too_long (λ b. restored too_long ds left b) o)
       go more none h = inl h
       go more (some (whole number' group id bytes)) h =
           never_both (sym (roomed_is unlimited (record { group = group; id = id; bytes = bytes }) refl) ∙ h)
       go more (some (delta number' base patches)) h = by (restored unlimited ds left base) refl
         where
-          below : RefusedOr number place (restored tooLong ds left base)
-              → RefusedOr number place (rebuilt tooLong patches (restored tooLong ds left base))
-          below (inl i) = inl (rebuilt_refused tooLong patches i)
-          below (inr i) = inr (i.0, rebuilt_refused tooLong patches i.1)
+          below : RefusedOr number place (restored too_long ds left base)
+              → RefusedOr number place (rebuilt too_long patches (restored too_long ds left base))
+          below (inl i) = inl (rebuilt_refused too_long patches i)
+          below (inr i) = inr (i.0, rebuilt_refused too_long patches i.1)
 
           range : (b : Payload) → ◌≡◌ {A = Answer Payload} (refused 13 0) (refused number place)
               → outside (length b.bytes) patches ≡ true
-              → GivenOr b (restored tooLong ds left base)
-              → RefusedOr number place (rebuilt tooLong patches (restored tooLong ds left base))
-          range b s q (inl g) = inl (rebuilt_range tooLong patches b g q ∙ s)
-          range b s q (inr g) = inr (cc, rebuilt_refused tooLong patches g)
+              → GivenOr b (restored too_long ds left base)
+              → RefusedOr number place (rebuilt too_long patches (restored too_long ds left base))
+          range b s q (inl g) = inl (rebuilt_range too_long patches b g q ∙ s)
+          range b s q (inr g) = inr (cc, rebuilt_refused too_long patches g)
 
           inside : (b : Payload) → restored unlimited ds left base ≡ gives b → (t : Bool) → outside (length b.bytes) patches ≡ t
-              → RefusedOr number place (rebuilt tooLong patches (restored tooLong ds left base))
+              → RefusedOr number place (rebuilt too_long patches (restored too_long ds left base))
           inside b g true q = range b (sym (rebuilt_range unlimited patches b g q) ∙ h) q (given_either left base g)
           inside b g false q = never_both (sym (rebuilt_is unlimited patches b g q refl) ∙ h)
 
           by : (a : Answer Payload) → restored unlimited ds left base ≡ a
-              → RefusedOr number place (rebuilt tooLong patches (restored tooLong ds left base))
+              → RefusedOr number place (rebuilt too_long patches (restored too_long ds left base))
           by (gives b) g = inside b g (outside (length b.bytes) patches) refl
           by (refused k l) g = below (more base (g ∙ sym (rebuilt_refused unlimited patches g) ∙ h))
 
@@ -220,19 +220,19 @@ unfolding sizes
 sizes_some ds zero n h = h
 sizes_some ds (suc left) n h = omega arith
 
-given_left : (tooLong : ℕ → Bool) (ds : List Dump) (left n : ℕ) {p : Payload} → restored tooLong ds left n ≡ gives p → 0 < left
+given_left : (too_long : ℕ → Bool) (ds : List Dump) (left n : ℕ) {p : Payload} → restored too_long ds left n ≡ gives p → 0 < left
 unfolding restored
-given_left tooLong ds zero n e = never_refused e
-given_left tooLong ds (suc left) n e = omega arith
+given_left too_long ds zero n e = never_refused e
+given_left too_long ds (suc left) n e = omega arith
 
-pub restored_bottom : (tooLong : ℕ → Bool) (ds : List Dump) (left n : ℕ) {p : Payload} → restored tooLong ds left n ≡ gives p
+pub restored_bottom : (too_long : ℕ → Bool) (ds : List Dump) (left n : ℕ) {p : Payload} → restored too_long ds left n ≡ gives p
     → Bottom ds n (length (sizes ds left n) - 1) p
 unfolding restored sizes comes
-restored_bottom tooLong ds zero n e = never_refused e
-restored_bottom tooLong ds (suc left) n {p} e = go (λ b q h. restored_bottom tooLong ds left b h) (made tooLong ds left n e)
+restored_bottom too_long ds zero n e = never_refused e
+restored_bottom too_long ds (suc left) n {p} e = go (λ b q h. restored_bottom too_long ds left b h) (made too_long ds left n e)
   where
-    go : ((b : ℕ) (q : Payload) → restored tooLong ds left b ≡ gives q → Bottom ds b (length (sizes ds left b) - 1) q)
-        → Made tooLong ds left n p
+    go : ((b : ℕ) (q : Payload) → restored too_long ds left b ≡ gives q → Bottom ds b (length (sizes ds left b) - 1) q)
+        → Made too_long ds left n p
         → Bottom ds n (suc (length (from_base [] (λ b. sizes ds left b) (base_of (held ds n)))) - 1) p
     go more (of_whole group id bytes t r s) =
         record {
@@ -243,7 +243,7 @@ restored_bottom tooLong ds (suc left) n {p} e = go (λ b q h. restored_bottom to
         }
     go more (of_delta base patches t b) =
         let m = more base b.old b.is_base in
-        let some_left : 0 < left = given_left tooLong ds left base b.is_base in
+        let some_left : 0 < left = given_left too_long ds left base b.is_base in
         record {
           resting = rests_base ds n t m.resting;
           steps_are = rw t (omega (arith, m.steps_are, sizes_some ds left base some_left));

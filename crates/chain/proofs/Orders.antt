@@ -19,16 +19,16 @@ use Rattle.chain.proofs.Outside.{or_false}
 
 module _ (ds es : List Dump) (On : ℕ → Type 0) (agree : (m : ℕ) → On m → held ds m ≡ held es m)
     (closed : (m b : ℕ) → On m → base_of (held ds m) ≡ some b → On b) where
-  pub restored_agree : (tooLong : ℕ → Bool) (left n : ℕ) → On n → restored tooLong ds left n ≡ restored tooLong es left n
+  pub restored_agree : (too_long : ℕ → Bool) (left n : ℕ) → On n → restored too_long ds left n ≡ restored too_long es left n
   unfolding restored
-  restored_agree tooLong zero n on = refl
-  restored_agree tooLong (suc left) n on = rw (← (agree n on)) (go (λ b h. restored_agree tooLong left b h) (held ds n) refl)
+  restored_agree too_long zero n on = refl
+  restored_agree too_long (suc left) n on = rw (← (agree n on)) (go (λ b h. restored_agree too_long left b h) (held ds n) refl)
     where
-      go : ((b : ℕ) → On b → restored tooLong ds left b ≡ restored tooLong es left b) → (o : Option Dump) → held ds n ≡ o
-          → restored_by tooLong (λ b. restored tooLong ds left b) o ≡ restored_by tooLong (λ b. restored tooLong es left b) o
+      go : ((b : ℕ) → On b → restored too_long ds left b ≡ restored too_long es left b) → (o : Option Dump) → held ds n ≡ o
+          → restored_by too_long (λ b. restored too_long ds left b) o ≡ restored_by too_long (λ b. restored too_long es left b) o
       go more none q = refl
       go more (some (whole number group id bytes)) q = refl
-      go more (some (delta number base patches)) q = ap (rebuilt tooLong patches) (more base (closed n base on (ap base_of q)))
+      go more (some (delta number base patches)) q = ap (rebuilt too_long patches) (more base (closed n base on (ap base_of q)))
 
   pub sizes_agree : (left n : ℕ) → On n → sizes ds left n ≡ sizes es left n
   unfolding sizes
@@ -51,8 +51,8 @@ module _ (ds es : List Dump) (On : ℕ → Type 0) (agree : (m : ℕ) → On m �
 -- ---- dumps that agree everywhere
 
 module _ (ds es : List Dump) (same : (m : ℕ) → held ds m ≡ held es m) where
-  pub restored-held : (tooLong : ℕ → Bool) (left n : ℕ) → restored tooLong ds left n ≡ restored tooLong es left n
-  restored-held tooLong left n = restored_agree ds es (λ m. Unit {0}) (λ m u. same m) (λ m b u q. tt) tooLong left n tt
+  pub restored-held : (too_long : ℕ → Bool) (left n : ℕ) → restored too_long ds left n ≡ restored too_long es left n
+  restored-held too_long left n = restored_agree ds es (λ m. Unit {0}) (λ m u. same m) (λ m b u q. tt) too_long left n tt
 
   pub described_held : (left n : ℕ) → described ds left n ≡ described es left n
   described_held left n = described_agree ds es (λ m. Unit {0}) (λ m u. same m) (λ m b u q. tt) left n tt

@@ -22,12 +22,12 @@ use Rattle.chain.proofs.Walks.{rebuilt_refused}
 
 -- ---- the walk
 
-module _ (tooLong : ℕ → Bool) (dumps : List Dump) where
-  pub restored-none : (left n : ℕ) → left ≡ 0 → restored tooLong dumps left n ≡ refused 25 0
+module _ (too_long : ℕ → Bool) (dumps : List Dump) where
+  pub restored-none : (left n : ℕ) → left ≡ 0 → restored too_long dumps left n ≡ refused 25 0
   unfolding restored
   restored-none left n e = rw e
 
-  pub restored-step : (left n : ℕ) → (left ≡ 0 → ⊥) → restored tooLong dumps left n ≡ restored_by tooLong (λ base. restored tooLong dumps (left - 1) base) (held dumps n)
+  pub restored-step : (left n : ℕ) → (left ≡ 0 → ⊥) → restored too_long dumps left n ≡ restored_by too_long (λ base. restored too_long dumps (left - 1) base) (held dumps n)
   unfolding restored
   restored-step zero n h = absurd (h refl)
   restored-step (suc left) n h = let q : suc left - 1 ≡ left = omega arith in rw q
@@ -40,9 +40,9 @@ module _ (store : List ℕ) (at : ℕ) (d : is_dump (get_or store at 0) ≡ true
   kind : is_data (get_or store at 0) ≡ false
   kind = let k = get_or store at 0 in sym (data_low k (omega (arith, dump_small k d)))
 
-  pub whole_here : (tooLong : ℕ → Bool) (f : ℕ → Answer Payload) → is_whole (get_or store at 0) ≡ true → restored_by tooLong f (some (dump_at store at)) ≡ roomed tooLong (whole_at store at)
+  pub whole_here : (too_long : ℕ → Bool) (f : ℕ → Answer Payload) → is_whole (get_or store at 0) ≡ true → restored_by too_long f (some (dump_at store at)) ≡ roomed too_long (whole_at store at)
   unfolding dump_of
-  whole_here tooLong f e = rw e
+  whole_here too_long f e = rw e
 
   pub delta_dump : is_whole (get_or store at 0) ≡ false
       → dump_at store at ≡ delta (pair_at (record_at store at).body 0) (pair_at store (at + 3)) (patches_in (records_from store (next_at store at)))
@@ -51,9 +51,9 @@ module _ (store : List ℕ) (at : ℕ) (d : is_dump (get_or store at 0) ≡ true
       let q : at + 1 + 2 ≡ at + 3 = omega arith in
       rw (e, body_pair store at 2 kind (omega arith), q)
 
-  pub delta-here : (tooLong : ℕ → Bool) (f : ℕ → Answer Payload) → is_whole (get_or store at 0) ≡ false
-      → restored_by tooLong f (some (dump_at store at)) ≡ rebuilt tooLong (patches_in (records_from store (next_at store at))) (f (pair_at store (at + 3)))
-  delta-here tooLong f e = ap (λ (d : Dump). restored_by tooLong f (some d)) (delta_dump e)
+  pub delta-here : (too_long : ℕ → Bool) (f : ℕ → Answer Payload) → is_whole (get_or store at 0) ≡ false
+      → restored_by too_long f (some (dump_at store at)) ≡ rebuilt too_long (patches_in (records_from store (next_at store at))) (f (pair_at store (at + 3)))
+  delta-here too_long f e = ap (λ (d : Dump). restored_by too_long f (some d)) (delta_dump e)
 
   pub whole_base : is_whole (get_or store at 0) ≡ true → base_of (some (dump_at store at)) ≡ none
   unfolding dump_of
@@ -70,34 +70,34 @@ module _ (store : List ℕ) (at : ℕ) (d : is_dump (get_or store at 0) ≡ true
 
 -- ---- one step of the walk
 
-module _ (tooLong : ℕ → Bool) (store : List ℕ) (left n : ℕ) (h : left ≡ 0 → ⊥) where
+module _ (too_long : ℕ → Bool) (store : List ℕ) (left n : ℕ) (h : left ≡ 0 → ⊥) where
   abbrev dumps : List Dump
   dumps = dumps_of store
 
-  pub step_missing : none ≡ held dumps n → restored tooLong dumps left n ≡ refused 24 0
-  step_missing q = restored-step tooLong dumps left n h ∙ ap (restored_by tooLong (λ base. restored tooLong dumps (left - 1) base)) (sym q)
+  pub step_missing : none ≡ held dumps n → restored too_long dumps left n ≡ refused 24 0
+  step_missing q = restored-step too_long dumps left n h ∙ ap (restored_by too_long (λ base. restored too_long dumps (left - 1) base)) (sym q)
 
   module _ (at : ℕ) (d : is_dump (get_or store at 0) ≡ true) (q : some (dump_at store at) ≡ held dumps n) where
-    pub step_whole : is_whole (get_or store at 0) ≡ true → roomed tooLong (whole_at store at) ≡ restored tooLong dumps left n
+    pub step_whole : is_whole (get_or store at 0) ≡ true → roomed too_long (whole_at store at) ≡ restored too_long dumps left n
     step_whole e =
-        sym (whole_here store at d tooLong (λ base. restored tooLong dumps (left - 1) base) e)
-        ∙ ap (restored_by tooLong (λ base. restored tooLong dumps (left - 1) base)) q
-        ∙ sym (restored-step tooLong dumps left n h)
+        sym (whole_here store at d too_long (λ base. restored too_long dumps (left - 1) base) e)
+        ∙ ap (restored_by too_long (λ base. restored too_long dumps (left - 1) base)) q
+        ∙ sym (restored-step too_long dumps left n h)
 
     pub step_delta : is_whole (get_or store at 0) ≡ false
-        → rebuilt tooLong (patches_in (records_from store (next_at store at))) (restored tooLong dumps (left - 1) (pair_at store (at + 3))) ≡ restored tooLong dumps left n
+        → rebuilt too_long (patches_in (records_from store (next_at store at))) (restored too_long dumps (left - 1) (pair_at store (at + 3))) ≡ restored too_long dumps left n
     step_delta e =
-        sym (delta-here store at d tooLong (λ base. restored tooLong dumps (left - 1) base) e)
-        ∙ ap (restored_by tooLong (λ base. restored tooLong dumps (left - 1) base)) q
-        ∙ sym (restored-step tooLong dumps left n h)
+        sym (delta-here store at d too_long (λ base. restored too_long dumps (left - 1) base) e)
+        ∙ ap (restored_by too_long (λ base. restored too_long dumps (left - 1) base)) q
+        ∙ sym (restored-step too_long dumps left n h)
 
     module _ (e : is_whole (get_or store at 0) ≡ false) {m : ℕ} (w : m ≡ pair_at store (at + 3)) where
-      pub step_refused : {number place : ℕ} → restored tooLong dumps (left - 1) m ≡ refused number place → restored tooLong dumps left n ≡ refused number place
-      step_refused r = sym (step_delta e) ∙ rebuilt_refused tooLong (patches_in (records_from store (next_at store at))) (rw w at r)
+      pub step_refused : {number place : ℕ} → restored too_long dumps (left - 1) m ≡ refused number place → restored too_long dumps left n ≡ refused number place
+      step_refused r = sym (step_delta e) ∙ rebuilt_refused too_long (patches_in (records_from store (next_at store at))) (rw w at r)
 
-      pub step_gives : {base : Payload} → restored tooLong dumps (left - 1) m ≡ gives base
-          → rebuilt tooLong (patches_in (records_from store (next_at store at))) (gives base) ≡ restored tooLong dumps left n
-      step_gives g = ap (rebuilt tooLong (patches_in (records_from store (next_at store at)))) (sym g ∙ ap (restored tooLong dumps (left - 1)) w) ∙ step_delta e
+      pub step_gives : {base : Payload} → restored too_long dumps (left - 1) m ≡ gives base
+          → rebuilt too_long (patches_in (records_from store (next_at store at))) (gives base) ≡ restored too_long dumps left n
+      step_gives g = ap (rebuilt too_long (patches_in (records_from store (next_at store at)))) (sym g ∙ ap (restored too_long dumps (left - 1)) w) ∙ step_delta e
 
 -- what was found stands there
 pub found_at : (store : List ℕ) {r : Found} {at : ℕ} → FoundDump store r → r ≡ found.At at → (at < length store) × (is_dump (get_or store at 0) ≡ true)

@@ -327,10 +327,10 @@ is_missing ds n m = go (walk ds (suc (length ds)) n) refl (ends ds (suc (length 
 -- ---- what restoring makes of it: Ring and Missing exactly so, before any Range or Room
 
 -- a delta passes its base's refusal on
-pub rebuilt_refused : (tooLong : ℕ → Bool) (patches : List Patch) {base : Answer Payload} {number place : ℕ} → base ≡ refused number place
-    → rebuilt tooLong patches base ≡ refused number place
+pub rebuilt_refused : (too_long : ℕ → Bool) (patches : List Patch) {base : Answer Payload} {number place : ℕ} → base ≡ refused number place
+    → rebuilt too_long patches base ≡ refused number place
 unfolding rebuilt
-rebuilt_refused tooLong patches e = rw e
+rebuilt_refused too_long patches e = rw e
 
 -- not Ring and not Missing
 abbrev pub Other : Answer Payload → Type 0
@@ -343,16 +343,16 @@ Says ring answer = answer ≡ refused 25 0
 Says missing answer = answer ≡ refused 24 0
 Says rests answer = Other answer
 
-module _ (tooLong : ℕ → Bool) (ds : List Dump) where
-  other_roomed : (payload : Payload) → Other (roomed tooLong payload)
+module _ (too_long : ℕ → Bool) (ds : List Dump) where
+  other_roomed : (payload : Payload) → Other (roomed too_long payload)
   unfolding roomed
-  other_roomed payload = go (tooLong (length payload.bytes))
+  other_roomed payload = go (too_long (length payload.bytes))
     where
       go : (b : Bool) → Other (guard b 14 0 ▷ gives payload)
       go true = ((λ e. omega arith), (λ e. omega arith))
       go false = tt
 
-  other_rebuilt : (patches : List Patch) (base : Answer Payload) → Other base → Other (rebuilt tooLong patches base)
+  other_rebuilt : (patches : List Patch) (base : Answer Payload) → Other base → Other (rebuilt too_long patches base)
   unfolding rebuilt
   other_rebuilt patches (refused number place) o = o
   other_rebuilt patches (gives base) o = go (outside (length base.bytes) patches)
@@ -360,50 +360,50 @@ module _ (tooLong : ℕ → Bool) (ds : List Dump) where
       after : Payload
       after = record { group = base.group; id = base.id; bytes = replaced base.bytes patches }
 
-      go : (b : Bool) → Other (guard b 13 0 ▷ roomed tooLong after)
+      go : (b : Bool) → Other (guard b 13 0 ▷ roomed too_long after)
       go true = ((λ e. omega arith), (λ e. omega arith))
       go false = other_roomed after
 
-  says_rebuilt : (patches : List Patch) (e : End) (base : Answer Payload) → Says e base → Says e (rebuilt tooLong patches base)
-  says_rebuilt patches ring base s = rebuilt_refused tooLong patches s
-  says_rebuilt patches missing base s = rebuilt_refused tooLong patches s
+  says_rebuilt : (patches : List Patch) (e : End) (base : Answer Payload) → Says e base → Says e (rebuilt too_long patches base)
+  says_rebuilt patches ring base s = rebuilt_refused too_long patches s
+  says_rebuilt patches missing base s = rebuilt_refused too_long patches s
   says_rebuilt patches rests base s = other_rebuilt patches base s
 
-  restored_says : (left n : ℕ) → Says (walk ds left n) (restored tooLong ds left n)
+  restored_says : (left n : ℕ) → Says (walk ds left n) (restored too_long ds left n)
   unfolding walk restored
   restored_says zero n = refl
   restored_says (suc left) n = go (λ b. restored_says left b) (held ds n)
     where
-      go : ((b : ℕ) → Says (walk ds left b) (restored tooLong ds left b)) → (o : Option Dump)
-          → Says (end_of o (λ b. walk ds left b)) (restored_by tooLong (λ b. restored tooLong ds left b) o)
+      go : ((b : ℕ) → Says (walk ds left b) (restored too_long ds left b)) → (o : Option Dump)
+          → Says (end_of o (λ b. walk ds left b)) (restored_by too_long (λ b. restored too_long ds left b) o)
       go more none = refl
       go more (some (whole number group id bytes)) = other_roomed _
-      go more (some (delta number base patches)) = says_rebuilt patches (walk ds left base) (restored tooLong ds left base) (more base)
+      go more (some (delta number base patches)) = says_rebuilt patches (walk ds left base) (restored too_long ds left base) (more base)
 
-  pub restored_ring : (left n : ℕ) → walk ds left n ≡ ring → restored tooLong ds left n ≡ refused 25 0
+  pub restored_ring : (left n : ℕ) → walk ds left n ≡ ring → restored too_long ds left n ≡ refused 25 0
   restored_ring left n e = rw e at (restored_says left n)
 
   -- a ring is one by any count
-  pub ring_restored : (left n : ℕ) → InRing ds n → restored tooLong ds left n ≡ refused 25 0
+  pub ring_restored : (left n : ℕ) → InRing ds n → restored too_long ds left n ≡ refused 25 0
   ring_restored left n r = let v = endless ds n r left in restored_ring left n (comes_ring ds left n v.middle v.first)
 
   -- a walk that ends needs no larger count
-  pub restored_more : (left n k : ℕ) → (walk ds left n ≡ ring → ⊥) → restored tooLong ds (left + k) n ≡ restored tooLong ds left n
+  pub restored_more : (left n k : ℕ) → (walk ds left n ≡ ring → ⊥) → restored too_long ds (left + k) n ≡ restored too_long ds left n
   unfolding walk restored
   restored_more zero n k h = absurd (h refl)
   restored_more (suc left) n k h = rw suc-add (go (λ b w. restored_more left b k w) (held ds n) h)
     where
-      go : ((b : ℕ) → (walk ds left b ≡ ring → ⊥) → restored tooLong ds (left + k) b ≡ restored tooLong ds left b) → (o : Option Dump)
+      go : ((b : ℕ) → (walk ds left b ≡ ring → ⊥) → restored too_long ds (left + k) b ≡ restored too_long ds left b) → (o : Option Dump)
           → (end_of o (λ b. walk ds left b) ≡ ring → ⊥)
-          → restored_by tooLong (λ b. restored tooLong ds (left + k) b) o ≡ restored_by tooLong (λ b. restored tooLong ds left b) o
+          → restored_by too_long (λ b. restored too_long ds (left + k) b) o ≡ restored_by too_long (λ b. restored too_long ds left b) o
       go more none w = refl
       go more (some (whole number group id bytes)) w = refl
-      go more (some (delta number base patches)) w = ap (rebuilt tooLong patches) (more base w)
+      go more (some (delta number base patches)) w = ap (rebuilt too_long patches) (more base w)
 
   -- ---- by the count that restoring begins with, Ring and Missing exactly so
 
   abbrev pub begun : ℕ → Answer Payload
-  begun n = restored tooLong ds (suc (length ds)) n
+  begun n = restored too_long ds (suc (length ds)) n
 
   rests_walk : (n : ℕ) → Rests ds n → walk ds (suc (length ds)) n ≡ rests
   rests_walk n w = go (walk ds (suc (length ds)) n) refl (ends ds (suc (length ds)) n)

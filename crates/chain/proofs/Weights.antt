@@ -124,34 +124,34 @@ module _ (ds : List Dump) (n : ℕ) where
   unfolding comes
   avoids_number m h e = h 0 (ap (λ (x : ℕ). some x) e)
 
-  restored-without : (tooLong : ℕ → Bool) (left m : ℕ) → Avoids ds n m
-      → restored tooLong ds left m ≡ restored tooLong (without n ds) left m
-  restored-without tooLong left m h =
-      restored_agree ds (without n ds) (Avoids ds n) (λ m a. other_held n ds m (avoids_number m a)) avoids_base tooLong left m h
+  restored-without : (too_long : ℕ → Bool) (left m : ℕ) → Avoids ds n m
+      → restored too_long ds left m ≡ restored too_long (without n ds) left m
+  restored-without too_long left m h =
+      restored_agree ds (without n ds) (Avoids ds n) (λ m a. other_held n ds m (avoids_number m a)) avoids_base too_long left m h
 
   -- a dump that is restored is not its own base's base
-  restored_avoids : (tooLong : ℕ → Bool) (left b : ℕ) {p : Payload} → base_of (held ds n) ≡ some b → restored tooLong ds left n ≡ gives p
+  restored_avoids : (too_long : ℕ → Bool) (left b : ℕ) {p : Payload} → base_of (held ds n) ≡ some b → restored too_long ds left n ≡ gives p
       → Avoids ds n b
   unfolding comes
-  restored_avoids tooLong left b q e k c =
+  restored_avoids too_long left b q e k c =
       let r : InRing ds n = record { earlier = 0; later = suc k; number = n; before = omega arith; passed = refl; again = rw q c } in
-      never_refused (sym (ring_restored tooLong ds left n r) ∙ e)
+      never_refused (sym (ring_restored too_long ds left n r) ∙ e)
 
 -- ---- no restored dump weighs more than all dumps
 
-restored_light : (tooLong : ℕ → Bool) (left : ℕ) (ds : List Dump) → All Formed ds → (n : ℕ) (p : Payload)
-    → restored tooLong ds left n ≡ gives p → length p.bytes ≤ weights ds
+restored_light : (too_long : ℕ → Bool) (left : ℕ) (ds : List Dump) → All Formed ds → (n : ℕ) (p : Payload)
+    → restored too_long ds left n ≡ gives p → length p.bytes ≤ weights ds
 unfolding restored
-restored_light tooLong zero ds a n p e = never_refused e
-restored_light tooLong (suc left) ds a n p e = go (λ es i b q h. restored_light tooLong left es i b q h) (made tooLong ds left n e)
+restored_light too_long zero ds a n p e = never_refused e
+restored_light too_long (suc left) ds a n p e = go (λ es i b q h. restored_light too_long left es i b q h) (made too_long ds left n e)
   where
-    go : ((es : List Dump) → All Formed es → (b : ℕ) (q : Payload) → restored tooLong es left b ≡ gives q → length q.bytes ≤ weights es)
-        → Made tooLong ds left n p → length p.bytes ≤ weights ds
+    go : ((es : List Dump) → All Formed es → (b : ℕ) (q : Payload) → restored too_long es left b ≡ gives q → length q.bytes ≤ weights es)
+        → Made too_long ds left n p → length p.bytes ≤ weights ds
     go more (of_whole group id bytes t r s) = omega (arith, ap (λ (x : Payload). length x.bytes) s, without-held n ds t)
     go more (of_delta base patches t b) =
-        let away = restored_avoids ds n tooLong (suc left) base (ap base_of t) e in
+        let away = restored_avoids ds n too_long (suc left) base (ap base_of t) e in
         let light =
-        more (without n ds) (without_all Formed n ds a) base b.old (sym (restored-without ds n tooLong left base away) ∙ b.is_base)
+        more (without n ds) (without_all Formed n ds a) base b.old (sym (restored-without ds n too_long left base away) ∙ b.is_base)
         in
         let far = apart (length b.old.bytes) patches (held_all Formed ds n a t) b.good in
         let size = ap (λ (x : Payload). length x.bytes) b.is in

@@ -22,7 +22,7 @@ exceeds lent size = ltb lent (words_for sysex8 size)
 
 -- Room: the dump itself needs more words than lent
 unfoldable pub roomed : (ℕ → Bool) → Payload → Answer Payload
-roomed tooLong payload = guard (tooLong (length payload.bytes)) 14 0 ▷ gives payload
+roomed too_long payload = guard (too_long (length payload.bytes)) 14 0 ▷ gives payload
 
 -- an edit that is reversed or past a payload of n bytes
 unfoldable pub outside : ℕ → List Patch → Bool
@@ -31,21 +31,21 @@ outside n (patch ∷ patches) = (ltb patch.to patch.from || ltb n patch.to) || o
 
 -- a delta from its restored base: the base's refusal; Range over all its edits; all ranges replaced at once; its Room
 unfoldable pub rebuilt : (ℕ → Bool) → List Patch → Answer Payload → Answer Payload
-rebuilt tooLong patches (refused number place) = refused number place
-rebuilt tooLong patches (gives base) =
+rebuilt too_long patches (refused number place) = refused number place
+rebuilt too_long patches (gives base) =
     guard (outside (length base.bytes) patches) 13 0
-    ▷ roomed tooLong (record { group = base.group; id = base.id; bytes = replaced base.bytes patches })
+    ▷ roomed too_long (record { group = base.group; id = base.id; bytes = replaced base.bytes patches })
 
 -- a dump, where its base is restored by f: Missing; a whole dump's Room; a delta from its base
 abbrev pub restored_by : (ℕ → Bool) → (ℕ → Answer Payload) → Option Dump → Answer Payload
-restored_by tooLong f none = refused 24 0
-restored_by tooLong f (some (whole number group id bytes)) = roomed tooLong (record { group = group; id = id; bytes = bytes })
-restored_by tooLong f (some (delta number base patches)) = rebuilt tooLong patches (f base)
+restored_by too_long f none = refused 24 0
+restored_by too_long f (some (whole number group id bytes)) = roomed too_long (record { group = group; id = id; bytes = bytes })
+restored_by too_long f (some (delta number base patches)) = rebuilt too_long patches (f base)
 
 -- the dump held under a number, its base first; Ring where more dumps are passed than there are
 unfoldable pub restored : (ℕ → Bool) → List Dump → ℕ → ℕ → Answer Payload
-restored tooLong dumps zero n = refused 25 0
-restored tooLong dumps (suc left) n = restored_by tooLong (λ base. restored tooLong dumps left base) (held dumps n)
+restored too_long dumps zero n = refused 25 0
+restored too_long dumps (suc left) n = restored_by too_long (λ base. restored too_long dumps left base) (held dumps n)
 
 -- ---- restore
 

@@ -8,7 +8,7 @@ ghost use Rattle.std.specs.Prelude.{◌≡◌, suc, ◌≤◌, length};
 ghost use Rattle.refusal.specs.Answer.{pass};
 ghost use Rattle.store.specs.Store.{dumps_of, sound};
 ghost use Rattle.store.specs.Places.{Noted};
-ghost use Rattle.chain.specs.Restore.{described, describe as describeOf};
+ghost use Rattle.chain.specs.Restore.{described, describe as describe_of};
 ghost use Rattle.chain.specs.Meaning.{Bases, described_meaning};
 
 use measuring::Measured;
@@ -82,7 +82,7 @@ fn describe_noted(store: &[u8], places: &[usize], number: usize) -> Described
 // Describes the dump of this number: what it is, its size, the words that restoring it needs, and its steps. Format, Twice, Full,
 // Missing, Ring, Range.
 pub fn describe(store: &[u8], number: usize) -> Described
-    ensures { described_meaning result ≡ describeOf store.now number }
+    ensures { described_meaning result ≡ describe_of store.now number }
 {
     let mut places = [0usize; 256];
     let checked = store::index(store, &mut places);

@@ -4,7 +4,7 @@ ghost use Rattle.refusal.specs.Answer.{gives};
 ghost use Rattle.ump.specs.Packet.{sysex8};
 ghost use Rattle.ump.specs.Edits.{edits_of, some_bad, some_overlap, lengths};
 ghost use Rattle.ump.specs.Runs.{run_at};
-ghost use Rattle.ump.specs.Origin.{beginning, origin_of, origin as originFor};
+ghost use Rattle.ump.specs.Origin.{beginning, origin_of, origin as origin_for};
 ghost use Rattle.message.specs.Accepted.{Accepted};
 ghost use Rattle.edit.specs.Meaning.{origin_meaning};
 
@@ -96,7 +96,7 @@ fn origin_checked(
     octet: usize,
 ) -> OctetOrigin
     requires { Accepted words.now length size }
-    ensures { origin_meaning result ≡ originFor sysex8 words.now length numbers.now bytes.now octet }
+    ensures { origin_meaning result ≡ origin_for sysex8 words.now length numbers.now bytes.now octet }
 {
     let listed = crate::listed::check_list(numbers, size, bytes.len());
     match listed {
@@ -130,7 +130,7 @@ pub fn origin(
     bytes: &[u8],
     octet: usize,
 ) -> OctetOrigin
-    ensures { origin_meaning result ≡ originFor sysex8 words.now length numbers.now bytes.now octet }
+    ensures { origin_meaning result ≡ origin_for sysex8 words.now length numbers.now bytes.now octet }
 {
     let checked = message::sysex8::check(words, length);
     match checked {

@@ -8,7 +8,7 @@ use Rattle.refusal.proofs.Tight.{differ}
 use Rattle.ump.specs.Packet.{size_of}
 use Rattle.ump.specs.Packing.{status_for, packets_for}
 use Rattle.layout.proofs.type_of.Reads as type-of
-use Rattle.layout.proofs.group_of.Reads as Group-of
+use Rattle.layout.proofs.group_of.Reads as group-of
 use Rattle.layout.proofs.status_of.Reads as status-of
 use Rattle.layout.proofs.count_of.Reads as count_of
 use Rattle.layout.proofs.id_of.Reads as id-of
@@ -41,8 +41,8 @@ sample = 0x5A3E81FF
 record ShutOut : Type 0 where
   type_of_low : Shuts type-of.Post (sample, tt) 15
   type_of_octet : Shuts type-of.Post (sample, tt) 0x5A
-  group_of_type : Shuts Group-of.Post (sample, tt) 5
-  group_of_three : Shuts Group-of.Post (sample, tt) 2
+  group_of_type : Shuts group-of.Post (sample, tt) 5
+  group_of_three : Shuts group-of.Post (sample, tt) 2
   status_of_count : Shuts status-of.Post (sample, tt) 14
   status_of_octet : Shuts status-of.Post (sample, tt) 0x3E
   count_of_status : Shuts count_of.Post (sample, tt) 3

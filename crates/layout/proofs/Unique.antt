@@ -4,7 +4,7 @@ use Rattle.refusal.specs.Tight.{FixesResult}
 use Rattle.layout.proofs.type_of.Kinds as type-of-kinds
 use Rattle.layout.proofs.type_of.Reads as type-of
 use Rattle.layout.proofs.group_of.Kinds as group-of-kinds
-use Rattle.layout.proofs.group_of.Reads as Group-of
+use Rattle.layout.proofs.group_of.Reads as group-of
 use Rattle.layout.proofs.status_of.Kinds as status-of-kinds
 use Rattle.layout.proofs.status_of.Reads as status-of
 use Rattle.layout.proofs.count_of.Kinds as count-of-kinds
@@ -37,7 +37,7 @@ use Rattle.layout.proofs.sysex7_packets.Reads as sysex7-packets
 type_of_unique : FixesResult 0 type-of-kinds.ps type-of-kinds.r type-of.Post
 type_of_unique κs a x y s t p q = p ∙ sym q
 
-group_of_unique : FixesResult 0 group-of-kinds.ps group-of-kinds.r Group-of.Post
+group_of_unique : FixesResult 0 group-of-kinds.ps group-of-kinds.r group-of.Post
 group_of_unique κs a x y s t p q = p ∙ sym q
 
 status_of_unique : FixesResult 0 status-of-kinds.ps status-of-kinds.r status-of.Post

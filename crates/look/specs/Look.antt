@@ -47,8 +47,8 @@ stands_at dump replacement (refused number place) = dump
 
 -- the part lent: where it stands, and its bytes
 unfoldable pub part_lent : ℕ × ℕ → ℕ × ℕ → List ℕ → ℕ → ℕ → List ℕ → ℕ → (ℕ × ℕ) × List ℕ
-part_lent dump_at replacementAt dump from to replacement i =
-    (stands_at dump_at replacementAt (find (length dump) (edit_by from to replacement) i), look dump from to replacement i)
+part_lent dump_at replacement_at dump from to replacement i =
+    (stands_at dump_at replacement_at (find (length dump) (edit_by from to replacement) i), look dump from to replacement i)
 
 -- ---- a list of edits
 

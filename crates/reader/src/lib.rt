@@ -3,7 +3,7 @@
 
 ghost use Rattle.std.specs.Prelude.{◌≡◌, ◌-◌, ◌/◌, ◌<◌, length};
 ghost use Rattle.ump.specs.Packet.{sysex8, size_at};
-ghost use Rattle.ump.specs.Reader.{nth as nth_of, bytes_remaining, reader as readerOf};
+ghost use Rattle.ump.specs.Reader.{nth as nth_of, bytes_remaining, reader as reader_of};
 ghost use Rattle.reader.specs.Meaning.{cursor_meaning, step_meaning, read_meaning, open_meaning};
 ghost use Rattle.reader.specs.Held.{reader_at, cursor_of, read_on};
 
@@ -117,7 +117,7 @@ pub enum Opened {
 
 // The cursor at the start of the message in the first `length` words, which are those that it is then read with; the check's refusals.
 pub fn open(words: &[u32], length: usize) -> Opened
-    ensures { open_meaning result ≡ readerOf sysex8 words.now length }
+    ensures { open_meaning result ≡ reader_of sysex8 words.now length }
 {
     let checked = message::sysex8::check(words, length);
     match checked {

@@ -59,10 +59,10 @@ module _ (ds : List Dump) where
       go missing q = ended (λ e. let z : ◌≡◌ {A = ℕ} 0 1 = cc in absurd (omega arith))
       go rests q = ended (λ e. let z : ◌≡◌ {A = ℕ} 0 1 = cc in absurd (omega arith))
 
-  restored_enough : (tooLong : ℕ → Bool) (n k : ℕ) → restored tooLong ds (suc (length ds) + k) n ≡ begun tooLong ds n
-  restored_enough tooLong n k =
-      by_walk (λ x. restored tooLong ds x n) n k (restored_more tooLong ds (suc (length ds)) n k)
-      (λ r. ring_restored tooLong ds (suc (length ds) + k) n r ∙ sym (ring_restored tooLong ds (suc (length ds)) n r))
+  restored_enough : (too_long : ℕ → Bool) (n k : ℕ) → restored too_long ds (suc (length ds) + k) n ≡ begun too_long ds n
+  restored_enough too_long n k =
+      by_walk (λ x. restored too_long ds x n) n k (restored_more too_long ds (suc (length ds)) n k)
+      (λ r. ring_restored too_long ds (suc (length ds) + k) n r ∙ sym (ring_restored too_long ds (suc (length ds)) n r))
 
   described_enough : (n k : ℕ) → described ds (suc (length ds) + k) n ≡ described ds (suc (length ds)) n
   described_enough n k =
@@ -87,12 +87,12 @@ module _ (ds es : List Dump) (On : ℕ → Type 0) (agree : (m : ℕ) → On m �
   counts : suc (length ds) + suc (length es) ≡ suc (length es) + suc (length ds)
   counts = omega arith
 
-  begun_agree : (tooLong : ℕ → Bool) (n : ℕ) → On n → begun tooLong ds n ≡ begun tooLong es n
-  begun_agree tooLong n on =
-      sym (restored_enough ds tooLong n (suc (length es)))
-      ∙ restored_agree ds es On agree closed tooLong (suc (length ds) + suc (length es)) n on
-      ∙ ap (λ (x : ℕ). restored tooLong es x n) counts
-      ∙ restored_enough es tooLong n (suc (length ds))
+  begun_agree : (too_long : ℕ → Bool) (n : ℕ) → On n → begun too_long ds n ≡ begun too_long es n
+  begun_agree too_long n on =
+      sym (restored_enough ds too_long n (suc (length es)))
+      ∙ restored_agree ds es On agree closed too_long (suc (length ds) + suc (length es)) n on
+      ∙ ap (λ (x : ℕ). restored too_long es x n) counts
+      ∙ restored_enough es too_long n (suc (length ds))
 
   told_agree : (n : ℕ) → On n → described ds (suc (length ds)) n ≡ described es (suc (length es)) n
   told_agree n on =
@@ -116,7 +116,7 @@ module _ (store : List ℕ) where
   pub staying_comes : (k n : ℕ) → Needed store n → comes (dumps_of store) k n ≡ comes staying k n
   staying_comes = comes_agree (dumps_of store) staying (Needed store) staying_held (needed_base store)
 
-  pub staying_begun : (tooLong : ℕ → Bool) (n : ℕ) → Needed store n → begun tooLong (dumps_of store) n ≡ begun tooLong staying n
+  pub staying_begun : (too_long : ℕ → Bool) (n : ℕ) → Needed store n → begun too_long (dumps_of store) n ≡ begun too_long staying n
   staying_begun = begun_agree (dumps_of store) staying (Needed store) staying_held (needed_base store)
 
   pub staying_told : (n : ℕ) → Needed store n

@@ -6,7 +6,7 @@ mod marking;
 mod moving;
 
 ghost use Rattle.std.specs.Prelude.{◌≡◌};
-ghost use Rattle.reclaim.specs.Reclaim.{mark as mark_of, collect as collectOf};
+ghost use Rattle.reclaim.specs.Reclaim.{mark as mark_of, collect as collect_of};
 ghost use Rattle.reclaim.specs.Meaning.{marked_meaning, collected_meaning};
 
 use refusal::{Fault, Refusal};
@@ -47,7 +47,7 @@ pub fn mark(store: &mut [u8], number: usize) -> Marked
 // Collects: keeps each wanted dump and each dump that a wanted one rests on, moves their records down in their old order, zeroes the rest
 // of the bytes lent, and answers the new length. Format, Twice, Full.
 pub fn collect(store: &mut [u8]) -> Collected
-    ensures { (collected_meaning result, store.new) ≡ collectOf store.old }
+    ensures { (collected_meaning result, store.new) ≡ collect_of store.old }
 {
     let mut places = [0usize; 256];
     let checked = store::index(store, &mut places);

@@ -89,40 +89,40 @@ reencoded_ring ds n r m steps c =
 
 -- ---- a delta and its base
 
-module _ (tooLong : ℕ → Bool) (ds : List Dump) (n : ℕ) {number base : ℕ} {patches : List Patch}
+module _ (too_long : ℕ → Bool) (ds : List Dump) (n : ℕ) {number base : ℕ} {patches : List Patch}
     (q : held ds n ≡ some (delta number base patches)) where
   -- one count less is enough for the base
-  pub base_begun : restored tooLong ds (length ds) base ≡ begun tooLong ds base
+  pub base_begun : restored too_long ds (length ds) base ≡ begun too_long ds base
   base_begun = go (walk ds (length ds) base) refl
     where
-      ended : (walk ds (length ds) base ≡ ring → ⊥) → restored tooLong ds (length ds) base ≡ begun tooLong ds base
+      ended : (walk ds (length ds) base ≡ ring → ⊥) → restored too_long ds (length ds) base ≡ begun too_long ds base
       ended h =
           let one : length ds + 1 ≡ suc (length ds) = omega arith in
-          sym (restored_more tooLong ds (length ds) base 1 h) ∙ ap (λ (x : ℕ). restored tooLong ds x base) one
+          sym (restored_more too_long ds (length ds) base 1 h) ∙ ap (λ (x : ℕ). restored too_long ds x base) one
 
-      go : (e : End) → walk ds (length ds) base ≡ e → restored tooLong ds (length ds) base ≡ begun tooLong ds base
+      go : (e : End) → walk ds (length ds) base ≡ e → restored too_long ds (length ds) base ≡ begun too_long ds base
       go ring w =
           let r = over_ring ds n _ (comes_base ds n (length ds) q ∙ ring_comes ds (length ds) base w) in
           let v = endless ds n r (suc (suc (length ds))) in
           let s = over_ring ds base v.middle (sym (comes_base ds n (suc (length ds)) q) ∙ v.first) in
-          restored_ring tooLong ds (length ds) base w ∙ sym (ring_restored tooLong ds (suc (length ds)) base s)
+          restored_ring too_long ds (length ds) base w ∙ sym (ring_restored too_long ds (suc (length ds)) base s)
       go missing w = ended (λ e. let z : ◌≡◌ {A = ℕ} 0 1 = cc in absurd (omega arith))
       go rests w = ended (λ e. let z : ◌≡◌ {A = ℕ} 0 1 = cc in absurd (omega arith))
 
 -- a delta without edits
-module _ (tooLong : ℕ → Bool) (ds : List Dump) where
-  rebuilt-bare : (left b : ℕ) → rebuilt tooLong [] (restored tooLong ds left b) ≡ restored tooLong ds left b
+module _ (too_long : ℕ → Bool) (ds : List Dump) where
+  rebuilt-bare : (left b : ℕ) → rebuilt too_long [] (restored too_long ds left b) ≡ restored too_long ds left b
   unfolding rebuilt outside replaced joined
-  rebuilt-bare left b = go (restored tooLong ds left b) refl
+  rebuilt-bare left b = go (restored too_long ds left b) refl
     where
-      go : (a : Answer Payload) → restored tooLong ds left b ≡ a → rebuilt tooLong [] a ≡ a
+      go : (a : Answer Payload) → restored too_long ds left b ≡ a → rebuilt too_long [] a ≡ a
       go (refused k l) q = refl
-      go (gives p) q = roomed_is tooLong p (given_room tooLong ds left b q)
+      go (gives p) q = roomed_is too_long p (given_room too_long ds left b q)
 
-  bare-same : (n : ℕ) {number base : ℕ} → held ds n ≡ some (delta number base []) → begun tooLong ds n ≡ begun tooLong ds base
+  bare-same : (n : ℕ) {number base : ℕ} → held ds n ≡ some (delta number base []) → begun too_long ds n ≡ begun too_long ds base
   unfolding restored
   bare-same n {base = base} q =
-      ap (restored_by tooLong (λ b. restored tooLong ds (length ds) b)) q ∙ rebuilt-bare (length ds) base ∙ base_begun tooLong ds n q
+      ap (restored_by too_long (λ b. restored too_long ds (length ds) b)) q ∙ rebuilt-bare (length ds) base ∙ base_begun too_long ds n q
 
 pub bare-restore : (store : List ℕ) (n : ℕ) {number base : ℕ} (words : List ℕ) → held (dumps_of store) n ≡ some (delta number base [])
     → restore store n words ≡ restore store base words
@@ -140,10 +140,10 @@ module _ {store other : List ℕ} (same : SameDumps store other) where
     same-held : (m : ℕ) → held (dumps_of store) m ≡ held (dumps_of other) m
     same-held = shuffled_held same.dumps (sound_good store passes).once
 
-    same_begun : (tooLong : ℕ → Bool) (n : ℕ) → begun tooLong (dumps_of store) n ≡ begun tooLong (dumps_of other) n
-    same_begun tooLong n =
-        restored-held (dumps_of store) (dumps_of other) same-held tooLong (suc (length (dumps_of store))) n
-        ∙ ap (λ (x : ℕ). restored tooLong (dumps_of other) (suc x) n) (shuffled_length same.dumps)
+    same_begun : (too_long : ℕ → Bool) (n : ℕ) → begun too_long (dumps_of store) n ≡ begun too_long (dumps_of other) n
+    same_begun too_long n =
+        restored-held (dumps_of store) (dumps_of other) same-held too_long (suc (length (dumps_of store))) n
+        ∙ ap (λ (x : ℕ). restored too_long (dumps_of other) (suc x) n) (shuffled_length same.dumps)
 
     same_described : (n : ℕ)
         → described (dumps_of store) (suc (length (dumps_of store))) n ≡ described (dumps_of other) (suc (length (dumps_of other))) n

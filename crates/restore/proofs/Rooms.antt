@@ -63,13 +63,13 @@ module _ (lent : ℕ) (p : Payload) where
 
 -- ---- a delta from its base
 
-module _ (tooLong : ℕ → Bool) (patches : List Patch) (base : Payload) where
-  pub rebuilt_range : {scratch : List ℕ} → outside (length base.bytes) patches ≡ true → Lays (rebuilt tooLong patches (gives base)) (laid.Refused Range) scratch
+module _ (too_long : ℕ → Bool) (patches : List Patch) (base : Payload) where
+  pub rebuilt_range : {scratch : List ℕ} → outside (length base.bytes) patches ≡ true → Lays (rebuilt too_long patches (gives base)) (laid.Refused Range) scratch
   unfolding rebuilt
   rebuilt_range e = lays_refused Range (rw e)
 
   pub rebuilt-roomed : {r : Laid} {scratch : List ℕ} → outside (length base.bytes) patches ≡ false
-      → Lays (roomed tooLong (record { group = base.group; id = base.id; bytes = replaced base.bytes patches })) r scratch → Lays (rebuilt tooLong patches (gives base)) r scratch
+      → Lays (roomed too_long (record { group = base.group; id = base.id; bytes = replaced base.bytes patches })) r scratch → Lays (rebuilt too_long patches (gives base)) r scratch
   unfolding rebuilt
   rebuilt-roomed e l = lays_as (rw e) l
 

@@ -5,7 +5,7 @@ mod output;
 mod restoring;
 
 ghost use Rattle.std.specs.Prelude.{◌≡◌, ◌≤◌, length};
-ghost use Rattle.chain.specs.Restore.{restore as restoreOf};
+ghost use Rattle.chain.specs.Restore.{restore as restore_of};
 ghost use Rattle.restore.specs.Meaning.{restored_meaning};
 ghost use Rattle.restore.specs.Laying.{Readied, Roomy};
 
@@ -31,7 +31,7 @@ fn restore_in(
     second: &mut [u8],
 ) -> Restored
     requires { Readied store.now places.now words.old × (Roomy words.old first.old × Roomy words.old second.old) }
-    ensures { (restored_meaning result, words.new) ≡ restoreOf store.now number words.old }
+    ensures { (restored_meaning result, words.new) ≡ restore_of store.now number words.old }
 {
     let laid = restoring::lay(
         store,
@@ -54,7 +54,7 @@ fn restore_in(
 // The same where at most 1,024 words are lent: a small scratch is enough.
 fn restore_small(store: &[u8], places: &[usize], number: usize, words: &mut [u32]) -> Restored
     requires { Readied store.now places.now words.old × (length words.old ≤ 1024) }
-    ensures { (restored_meaning result, words.new) ≡ restoreOf store.now number words.old }
+    ensures { (restored_meaning result, words.new) ≡ restore_of store.now number words.old }
 {
     let mut first = [0u8; 3328];
     let mut second = [0u8; 3328];
@@ -64,7 +64,7 @@ fn restore_small(store: &[u8], places: &[usize], number: usize, words: &mut [u32
 // The same for any words that may be lent.
 fn restore_large(store: &[u8], places: &[usize], number: usize, words: &mut [u32]) -> Restored
     requires { Readied store.now places.now words.old }
-    ensures { (restored_meaning result, words.new) ≡ restoreOf store.now number words.old }
+    ensures { (restored_meaning result, words.new) ≡ restore_of store.now number words.old }
 {
     let mut first = [0u8; layout::MOST_BYTES];
     let mut second = [0u8; layout::MOST_BYTES];
@@ -74,7 +74,7 @@ fn restore_large(store: &[u8], places: &[usize], number: usize, words: &mut [u32
 // The same, with a scratch that is large enough for the words lent.
 fn restore_noted(store: &[u8], places: &[usize], number: usize, words: &mut [u32]) -> Restored
     requires { Readied store.now places.now words.old }
-    ensures { (restored_meaning result, words.new) ≡ restoreOf store.now number words.old }
+    ensures { (restored_meaning result, words.new) ≡ restore_of store.now number words.old }
 {
     if words.len() <= 1024 {
         return restore_small(store, places, number, words);
@@ -85,7 +85,7 @@ fn restore_noted(store: &[u8], places: &[usize], number: usize, words: &mut [u32
 // Restores the dump of this number: its base first, then its edits, in fewest-packet form, and zeroes all lent words past it. Long,
 // Format, Twice, Full, Missing, Ring, and then Range and Room along the walk, the base's before its delta's.
 pub fn restore(store: &[u8], number: usize, words: &mut [u32]) -> Restored
-    ensures { (restored_meaning result, words.new) ≡ restoreOf store.now number words.old }
+    ensures { (restored_meaning result, words.new) ≡ restore_of store.now number words.old }
 {
     if words.len() > layout::MOST_WORDS {
         return Restored::Refused(Fault {

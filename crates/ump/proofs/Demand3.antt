@@ -37,16 +37,16 @@ demand3 {shape = shape} dense {view} {patches = patches} {held = held} fits meet
 
 -- Two workers, by the same calls or by others, each with words of its own, whose messages have one group, id and payload, each in an
 -- order of its own and with any outcomes of its calls: the same length and the same words of the message. (Words past it may differ.)
-pub two_workers : {Lent Record Lent' Record' : Type 0} {shape : Shape} {words_of : Lent → List ℕ} {wordsOf' : Lent' → List ℕ}
-    {edit_of : Record → Edit} {editOf' : Record' → Edit} {calls : Calls Lent Record} {calls' : Calls Lent' Record'} {patches : List Patch}
+pub two_workers : {Lent Record Lent' Record' : Type 0} {shape : Shape} {words_of : Lent → List ℕ} {words_of' : Lent' → List ℕ}
+    {edit_of : Record → Edit} {edit_of' : Record' → Edit} {calls : Calls Lent Record} {calls' : Calls Lent' Record'} {patches : List Patch}
     {held : Held Lent Record} {held' : Held Lent' Record'}
-    → Demand3 shape words_of edit_of calls patches held → Demand3 shape wordsOf' editOf' calls' patches held'
-    → group_at shape (words_of held.lent) 0 ≡ group_at shape (wordsOf' held'.lent) 0
-    → id_at shape (words_of held.lent) 0 ≡ id_at shape (wordsOf' held'.lent) 0
-    → payload_of shape (words_of held.lent) held.length ≡ payload_of shape (wordsOf' held'.lent) held'.length
+    → Demand3 shape words_of edit_of calls patches held → Demand3 shape words_of' edit_of' calls' patches held'
+    → group_at shape (words_of held.lent) 0 ≡ group_at shape (words_of' held'.lent) 0
+    → id_at shape (words_of held.lent) 0 ≡ id_at shape (words_of' held'.lent) 0
+    → payload_of shape (words_of held.lent) held.length ≡ payload_of shape (words_of' held'.lent) held'.length
     → {order order' : List ℕ} → Each patches order → Each patches order' → {left : Lent} {left' : Lent'} {size size' : ℕ}
     → Works calls (bytes_of patches) held order (finished left size) → Works calls' (bytes_of patches) held' order' (finished left' size')
-    → (size ≡ size') × (take size (words_of left) ≡ take size' (wordsOf' left'))
+    → (size ≡ size') × (take size (words_of left) ≡ take size' (words_of' left'))
 two_workers {patches = patches} one other groups ids payloads {order} {order'} each each' works works' =
     same_message groups ids (ap (λ (x : List ℕ). replaced x patches) payloads) (one.result order each works) (other.result order' each' works')
 

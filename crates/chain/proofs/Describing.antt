@@ -10,7 +10,7 @@ use Rattle.ump.specs.Packet.{sysex8}
 use Rattle.ump.specs.Packing.{words_for}
 use Rattle.store.specs.Store.{Dump, dumps_of, sound, held}
 use Rattle.chain.specs.Walk.{base_of}
-use Rattle.chain.specs.Restore.{restored, unlimited, sizes, largest, described, describe}
+use Rattle.chain.specs.Restore.{restored, unlimited, sizes, described, describe}
 use Rattle.chain.specs.Laying.{MeasureOf}
 use Rattle.chain.specs.declared.measuring.Extent.{Extent}
 

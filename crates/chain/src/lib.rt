@@ -19,7 +19,7 @@ use store::finding::Found;
 use store::record::{byte, is_whole, number_at};
 
 // What a dump is: whole, or a delta of this base.
-#[derive(Drop)]
+#[derive(Clone, Copy)]
 pub enum Basis {
     Whole,
     Delta(usize),

@@ -9,7 +9,7 @@ use lib.ListN.{length, get_or}
 use lib.Pow.{mod-mod-pow}
 use mir.Syntax.{w32}
 use mir.Val.{Fits}
-use borrow.Author.Tests.{eq-eqb, ne_eqb, lt-ltb, le-ltb, le-leb, ltb-false, eqb-true, eqb-false}
+use borrow.Author.Tests.{eq-eqb, ne_eqb, lt-ltb, le-ltb, ltb-false, eqb-true, eqb-false}
 use Rattle.refusal.specs.Answer.{Answer, gives, refused, ◌▷◌, guard}
 use Rattle.refusal.proofs.Laws.{never_refused}
 use Rattle.ump.specs.Word.{octet, octets}

@@ -8,7 +8,7 @@ use lib.Dec.{ltb}
 use lib.ListN.{length, get_or, length-append, get_or-append}
 use lib.Seq.{get_or-append-add, ext_get_or}
 use borrow.Author.Tests.{ltb-true, ltb-false}
-use Rattle.ump.specs.Packet.{Shape, header, size_at, packet, payload_at, byte_at, joined, payload}
+use Rattle.ump.specs.Packet.{Shape, header, size_at, payload_at, byte_at, joined, payload}
 use Rattle.ump.specs.Setters.{packet_of, byte_in}
 use Rattle.ump.proofs.Joined.{joined_around}
 use Rattle.ump.proofs.First.{Side, under, over, side, first_at, first_before}

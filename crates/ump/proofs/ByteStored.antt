@@ -7,7 +7,7 @@ use native.Mathlib.Decide.{ℕ_discrete}
 use native.Mathlib.Omega.{arith}
 use lib.ListN.{length, get_or, drop, set, length-set}
 use lib.Seq.{take-set-le, drop-set-add, drop-set-lt, get_or-set_other, get_or-set_same}
-use Rattle.ump.specs.Word.{octet_field, shift, part, with_part, octet}
+use Rattle.ump.specs.Word.{octet_field, shift, part, with_part}
 use Rattle.ump.specs.Packet.{Shape, header, first_word, group_at, count_at, id_at, size_at, packet, payload_at, place_word, place_octet, byte_at, payload}
 use Rattle.ump.specs.Check.{checked, Valid}
 use Rattle.ump.specs.Setters.{packet_of, byte_in, store_byte}

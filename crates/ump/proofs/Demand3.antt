@@ -1,19 +1,17 @@
 -- Demand 3 over a shape and over any two calls that meet the definitions, as one statement; its uses by calls on words alone.
 -- Assumes nothing.
 use mathlib.Core.Path.{◌≡◌, refl, sym, ap, ◌∙◌}
-use mathlib.Core.Bool.{Bool}
 use mathlib.Core.List.{List}
 use Prim.Native.Nat.{ℕ}
-use lib.ListN.{length, take}
-use Rattle.refusal.specs.Answer.{Answer, gives}
-use Rattle.ump.specs.Word.{Below}
-use Rattle.ump.specs.Packet.{Shape, sysex8, sysex7, group_at, id_at}
+use lib.ListN.{take}
+use Rattle.refusal.specs.Answer.{Answer}
+use Rattle.ump.specs.Packet.{Shape, sysex7, group_at, id_at}
 use Rattle.ump.specs.Check.{payload_of}
-use Rattle.ump.specs.Splice.{Spliced, splice}
+use Rattle.ump.specs.Splice.{Spliced}
 use Rattle.ump.specs.Edits.{Edit, Patch, replaced}
 use Rattle.ump.specs.Worker.{Calls, Held, Works, finished, Fits, bytes_of, start, Each, reached}
 use Rattle.ump.specs.Demand.{Demand3}
-use Rattle.ump.specs.Meets.{moved_edit, View, plain_view, Meets, HasOutcomes, most_on_the_way, WorkerBegins, PlainMeets, PlainAnswers, defined}
+use Rattle.ump.specs.Meets.{View, plain_view, Meets, HasOutcomes, most_on_the_way, WorkerBegins, PlainMeets, PlainAnswers, defined}
 use Rattle.ump.specs.Limits.{Dense}
 use Rattle.ump.proofs.Limits.{dense7}
 use Rattle.ump.proofs.Demand.{same_message, no_refusal, result, finishes, places, words_behind}

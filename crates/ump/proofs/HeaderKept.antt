@@ -5,11 +5,11 @@ use mathlib.Core.List.{List, [], ◌∷◌}
 use Prim.Native.Nat.{ℕ, zero, suc, ◌+◌, ◌*◌, ◌/◌, ◌^◌, ◌≤◌, ◌<◌}
 use native.Mathlib.Nat.{mul-div_right}
 use native.Mathlib.Omega.{arith}
-use lib.ListN.{length, take, set}
+use lib.ListN.{length, take}
 use Rattle.refusal.specs.Answer.{gives}
 use Rattle.ump.specs.Word.{nibble_field, octet_field, shift, part, with_part, nibble, octet}
-use Rattle.ump.specs.Packet.{Shape, sysex8, header, group_at, id_in, id_at, payload}
-use Rattle.ump.specs.Check.{check, payload_of, summary, checked, Valid}
+use Rattle.ump.specs.Packet.{Shape, sysex8, header, group_at, id_in, id_at}
+use Rattle.ump.specs.Check.{payload_of, summary, checked, Valid}
 use Rattle.ump.specs.Single.{with_group}
 use Rattle.ump.specs.Setters.{with_id}
 use Rattle.ump.specs.Setting.{Headed, HeadedAt, Keeps}

@@ -8,7 +8,7 @@ use native.Mathlib.Omega.{arith}
 use lib.ListN.{length, get_or, drop, set, length-set, length-drop}
 use lib.Seq.{get_or-drop, get_or-set_other, get_or-set_same, ext_get_or}
 use Rattle.ump.specs.Word.{octet_field, shift, part, nibble}
-use Rattle.ump.specs.Packet.{Shape, sysex8, header, first_word, group_at, count_at, id_in, id_at, size_at, packet, payload_at, place_word, place_octet, byte_at, payload}
+use Rattle.ump.specs.Packet.{Shape, sysex8, header, first_word, group_at, count_at, id_in, id_at, size_at, payload_at, place_word, place_octet, byte_at, payload}
 use Rattle.ump.specs.Single.{with_group}
 use Rattle.ump.specs.Setters.{on_heads, with_id}
 use Rattle.ump.specs.Setting.{HeadedAt, Keeps, Changed}

@@ -1,10 +1,8 @@
 -- What fits a number of words: as many bytes as their packets carry, and no more. Assumes nothing.
-use mathlib.Core.Path.{◌≡◌}
 use Prim.Native.Nat.{ℕ, ◌*◌, ◌/◌, ◌≤◌, ◌<◌}
 use native.Mathlib.Nat.{le_trans, mul_comm, mul-le-mul_left, le-div_iff_mul-le, mul-div-le}
 use native.Mathlib.Omega.{arith}
 use lib.Dec.{lit≤}
-use lib.ListN.{length}
 use Rattle.ump.specs.Packet.{Shape, sysex8, sysex7}
 use Rattle.ump.specs.Packing.{words_for, packets_for}
 use Rattle.ump.specs.Limits.{most_words, most_bytes, capacity, Dense}

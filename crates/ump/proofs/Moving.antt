@@ -11,7 +11,7 @@ use borrow.Author.Tests.{le-ltb}
 use Rattle.refusal.specs.Answer.{gives}
 use Rattle.ump.specs.Packet.{joined}
 use Rattle.ump.specs.Limits.{most_bytes}
-use Rattle.ump.specs.Edits.{Edit, Range, Patch, patch_at, Apart, elem, total, all_bytes, bad_edit, moved_past, move_edit}
+use Rattle.ump.specs.Edits.{Edit, Patch, patch_at, Apart, elem, total, all_bytes, bad_edit, moved_past, move_edit}
 use Rattle.ump.specs.Partly.{range_now, edit_now, added, removed, moved, piece}
 use Rattle.ump.proofs.Joined.{joined_add}
 use Rattle.ump.proofs.First.{Side, under, over, side}

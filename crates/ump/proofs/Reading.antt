@@ -1,19 +1,18 @@
 -- Laws of the payload reader: what stands where, what a call leaves, and that a message is read to its end. Assumes nothing.
 use mathlib.Core.Path.{◌≡◌, refl, sym, ap, ◌∙◌, subst}
-use mathlib.Core.List.{List, [], ◌∷◌, ◌++◌, append-nil, append_assoc, map, map-append}
+use mathlib.Core.List.{List, [], ◌∷◌, ◌++◌, append-nil, append_assoc, map-append}
 use Prim.Native.Nat.{ℕ, zero, suc, ◌+◌, ◌-◌, ◌*◌, ◌/◌, ◌≤◌, ◌<◌}
-use native.Mathlib.Nat.{add-zero, zero-add, sub-zero, zero-sub, suc-sub-suc, mul-suc, mul-le-mul_left, mul-div-le}
+use native.Mathlib.Nat.{add-zero, zero-add, sub-zero, suc-sub-suc, mul-suc, mul-le-mul_left, mul-div-le}
 use native.Mathlib.Numerals.{add-one}
 use native.Mathlib.Omega.{arith}
 use lib.ListN.{length, take, drop, length-append, length-take, length-drop, length-map, drop_of_length-le}
 use lib.Seq.{take_all, take-nil, drop-nil, drop-drop, drop-cons, drop-length, take-take, take-append-le, take-append-add, drop-append-le, drop-append-add, length-take-le}
-use Rattle.ump.specs.Packet.{Shape, first_word, size_at, packet, payload_at, joined, payload, byte_at}
+use Rattle.ump.specs.Packet.{Shape, size_at, payload_at, joined, payload, byte_at}
 use Rattle.ump.specs.Check.{payload_of}
-use Rattle.ump.specs.Reader.{Cursor, Step, byte, ended, Read, row, walk, places, unread, bytes_remaining, read_first, nth, start_of, bytes_at, first_step}
+use Rattle.ump.specs.Reader.{Cursor, byte, ended, Read, row, walk, places, unread, bytes_remaining, read_first, nth, start_of, bytes_at, first_step}
 use Rattle.ump.proofs.First.{Side, under, over, side}
 use Rattle.ump.proofs.Fronts.{drop-take}
 use Rattle.ump.proofs.Depends.{payload_same}
-use Rattle.ump.proofs.Sizes.{words_pos}
 use Rattle.ump.proofs.Bytes.{length-payload_at, get_d_payload_at}
 
 -- ---- the places of one packet

@@ -8,7 +8,6 @@ use lib.ListN.{length}
 use lib.Signed.{mag}
 use Rattle.ump.proofs.First.{Side, under, over, side}
 use lib.IntN.{ℤ, pos, ◌+ℤ◌, ◌-ℤ◌, neg_ℤ, sub_ℕ, +ℤ_assoc, +ℤ_comm, neg_ℤ-+ℤ, +ℤ_idr}
-use Rattle.ump.specs.Splice.{growth_by}
 use Rattle.ump.specs.Edits.{Edit, Range, bad_edit, as_place, moved_past, move_edit, Patch, patch_at, edit_at, Apart, elem, total, growth, totalℤ, grown}
 use borrow.Author.Tests.{le-ltb, ltb-false}
 use lib.Dec.{ltb}

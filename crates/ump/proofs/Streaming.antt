@@ -12,7 +12,7 @@ use Rattle.refusal.specs.Answer.{gives, refused, ◌▷◌, guard, writes}
 use Rattle.refusal.proofs.Laws.{never_refused}
 use Rattle.ump.specs.Word.{Below}
 use Rattle.ump.specs.Packet.{sysex7}
-use Rattle.ump.specs.Packing.{pack, words_for}
+use Rattle.ump.specs.Packing.{pack}
 use Rattle.ump.specs.Limits.{most_words}
 use Rattle.ump.specs.Check.{payload_of, summary, checked}
 use Rattle.ump.specs.Stream.{bad_frame, between, bad_byte, without_real_time, first_bad, data_of, to_sysex7, bad_at, needed, Streamed}

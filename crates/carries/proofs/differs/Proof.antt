@@ -20,7 +20,7 @@ pub differs_spec : {M : Type 1} → statement M
 differs_spec =
     tie.close
     (tie.spec
-    (λ c. let d = c in omega (arith, d.requires.not_far, d.requires.size_is, size_small sysex8 (count_at sysex8 d.args.words.now d.args.packet)))
+    (λ c. omega (arith, c.requires.not_far, c.requires.size_is, size_small sysex8 (count_at sysex8 c.args.words.now c.args.packet)))
     (λ c κs. search rules)
     (λ c. search rules)
     (λ c κs. search rules)

@@ -36,27 +36,24 @@ counted : (c : tie.In-loop-packet invariant-loop decreases-loop) → let count =
 counted c = (start c.before).requires.counted c.loop-packet.packet c.loop-packet-test.true
 
 -- the size that the code reads
-size_is : (c : tie.After-count_of invariant-loop decreases-loop) → let i = c in
-    c.count_of.result - 1 ≡ size_at sysex8 (start i.before.before.before).args.words.now i.loop-packet.packet
+size_is : (c : tie.After-count_of invariant-loop decreases-loop) →
+    c.count_of.result - 1 ≡ size_at sysex8 (start c.before.before.before).args.words.now c.loop-packet.packet
 size_is c =
-    let i = c in
     ap (λ (n : ℕ). n - 1) c.count_of.ensures
-    ∙ sym (size_of_count sysex8 (count_at sysex8 (start i.before.before.before).args.words.now i.loop-packet.packet) (counted i.before.before).1)
+    ∙ sym (size_of_count sysex8 (count_at sysex8 (start c.before.before.before).args.words.now c.loop-packet.packet) (counted c.before.before).1)
 
-answer : (c : tie.After-differs invariant-loop decreases-loop) → let l = c in let a = (start l.before.before.before.before).args in
-    c.differs.result ≡ other_bytes sysex8 a.words.now a.payload.now l.loop-packet.packet
+answer : (c : tie.After-differs invariant-loop decreases-loop) → let a = (start c.before.before.before.before).args in
+    c.differs.result ≡ other_bytes sysex8 a.words.now a.payload.now c.loop-packet.packet
 answer c =
-    let l = c in
-    let a = (start l.before.before.before.before).args in
-    c.differs.ensures ∙ other_is sysex8 a.words.now a.payload.now l.loop-packet.packet l.loop-packet.at l.loop-packet.invariant.1
+    let a = (start c.before.before.before.before).args in
+    c.differs.ensures ∙ other_is sysex8 a.words.now a.payload.now c.loop-packet.packet c.loop-packet.at c.loop-packet.invariant.1
 
 loop-again : tie.Need-loop-packet-preserved invariant-loop decreases-loop
 loop-again c =
-    let i = c in
-    let w = (start i.before.before.before.before.before).args.words.now in
-    let p = i.loop-packet.packet in (
-      passed_one i.loop-packet.invariant.0 i.loop-packet-test.true (sym (answer c.before) ∙ c.if-differs.false),
-      rw (add-one p) (omega (arith, i.loop-packet.invariant.1, payload_more sysex8 w p (at-packet i.before.before.before.before).there, size_is c.before.before)),
+    let w = (start c.before.before.before.before.before).args.words.now in
+    let p = c.loop-packet.packet in (
+      passed_one c.loop-packet.invariant.0 c.loop-packet-test.true (sym (answer c.before) ∙ c.if-differs.false),
+      rw (add-one p) (omega (arith, c.loop-packet.invariant.1, payload_more sysex8 w p (at-packet c.before.before.before.before).there, size_is c.before.before)),
     )
 
 pub first_differing_spec : {M : Type 1} → statement M
@@ -72,10 +69,10 @@ first_differing_spec =
     (λ c κs. search rules)
     (λ c. search rules)
     (λ c. omega (arith, c.count_of.ensures, (counted c.before.before).0))
-    (λ c κs. let i = c in record { there = (at-packet i.before.before).there; few = omega (arith, (at-packet i.before.before).few); size_is = size_is c; not_far = omega (arith, few i.before.before, (at-packet i.before.before).few) })
-    (λ c. let i = c in passed_here i.loop-packet.invariant.0 i.loop-packet-test.true (sym (answer c.before) ∙ c.if-differs.true))
-    (λ c. let k = c in let i = k in omega (arith, few i.before.before.before.before, (at-packet i.before.before.before.before).few, (counted i.before.before.before.before).1, k.count_of.ensures))
+    (λ c κs. record { there = (at-packet c.before.before).there; few = omega (arith, (at-packet c.before.before).few); size_is = size_is c; not_far = omega (arith, few c.before.before, (at-packet c.before.before).few) })
+    (λ c. passed_here c.loop-packet.invariant.0 c.loop-packet-test.true (sym (answer c.before) ∙ c.if-differs.true))
+    (λ c. omega (arith, few c.before.before.before.before, (at-packet c.before.before.before.before).few, (counted c.before.before.before.before).1, c.count_of.ensures))
     (λ c. omega (arith, (at-packet c.before.before.before.before).number))
     (λ c. omega (arith, c.loop-packet-test.true))
     loop-again
-    (λ c. let l = c in let e : l.loop-packet.packet ≡ (start l.before).args.packets = omega (arith, l.loop-packet.invariant.0.within, c.loop-packet-test.false) in sym e ∙ passed_end l.loop-packet.invariant.0 c.loop-packet-test.false))
+    (λ c. let e : c.loop-packet.packet ≡ (start c.before).args.packets = omega (arith, c.loop-packet.invariant.0.within, c.loop-packet-test.false) in sym e ∙ passed_end c.loop-packet.invariant.0 c.loop-packet-test.false))

@@ -47,11 +47,10 @@ some c = omega (arith, long c.before, c.if-size-eq0.false)
 
 read : (c : tie.After-octet_of) → c.octet_of.result ≡ get_or (piece c.before.before.before) 0 0
 read c =
-    let e = c in
-    let d = start e.before.before.before in
+    let d = start c.before.before.before in
     c.octet_of.ensures
     ∙ ap (λ (k : ℕ). octet (get_or d.args.words.now k 0) 3) (sym (add-zero (4 * d.args.packet)))
-    ∙ sym (get_d_payload_at sysex8 d.args.words.now d.args.packet d.requires.0.there 0 (omega (arith, d.requires.0.size_is, e.if-size-eq0.false)))
+    ∙ sym (get_d_payload_at sysex8 d.args.words.now d.args.packet d.requires.0.there 0 (omega (arith, d.requires.0.size_is, c.if-size-eq0.false)))
 
 -- the way back from each test that goes on, and what is left then: the bytes from 1 on, from 5 on, from 9 on
 abbrev begun : tie.Else-octet_of-payload → tie.After-shared_slice_known-2-1
@@ -65,10 +64,8 @@ second-passed c = c.before.before.before.before
 
 from-1 : (c : tie.Else-octet_of-payload) → all (begun c) ≡ from (begun c) 1
 from-1 c =
-    let o = c in
-    let e = o in
-    let d = start e.before.before.before.before.before in
-    like_on (piece e.before.before.before.before.before) d.args.payload.now 0 d.args.at (some e.before.before.before.before) (omega (arith, d.requires.1, e.if-size-eq0.false)) (sym (read o.before.before) ∙ c.if-octet_of-payload.false)
+    let d = start c.before.before.before.before.before in
+    like_on (piece c.before.before.before.before.before) d.args.payload.now 0 d.args.at (some c.before.before.before.before) (omega (arith, d.requires.1, c.if-size-eq0.false)) (sym (read c.before.before) ∙ c.if-octet_of-payload.false)
 
 -- a word that does not differ, and one that does
 passed : {b x y : Bool} → b ≡ x || y → x ≡ false → b ≡ y
@@ -93,45 +90,39 @@ or_false false = refl
 
 returns : tie.Need-returns-then-size-eq0
 returns c =
-    let k = c in
-    let d = start k.before in
-    sym (like_end (piece k.before) (drop d.args.at d.args.payload.now) 0 (omega (arith, long k.before, c.if-size-eq0.true)))
+    let d = start c.before in
+    sym (like_end (piece c.before) (drop d.args.at d.args.payload.now) 0 (omega (arith, long c.before, c.if-size-eq0.true)))
 
 returns_2 : tie.Need-returns-then-octet_of-payload
 returns_2 c =
-    let o = c in
-    let e = o in
-    let d = start e.before.before.before.before.before in
-    like_differ (piece e.before.before.before.before.before) d.args.payload.now 0 d.args.at (some e.before.before.before.before) (omega (arith, d.requires.1, e.if-size-eq0.false)) (λ q. c.if-octet_of-payload.true (read o.before.before ∙ q))
+    let d = start c.before.before.before.before.before in
+    like_differ (piece c.before.before.before.before.before) d.args.payload.now 0 d.args.at (some c.before.before.before.before) (omega (arith, d.requires.1, c.if-size-eq0.false)) (λ q. c.if-octet_of-payload.true (read c.before.before ∙ q))
 
 returns-3 : tie.Need-returns-then-size-lt5
 returns-3 c = c.bytes_differ.ensures ∙ sym (from-1 c.before.before)
 
 returns-4 : tie.Need-returns-then-word_differs
 returns-4 c =
-    let f = c in
-    let k = begun f.before.before.before.before in
-    stopped (from k 5) (from-1 f.before.before.before.before ∙ step k 1 1 refl f.if-size-lt5.false) (sym c.word_differs.ensures ∙ c.if-word_differs.true)
+    let k = begun c.before.before.before.before in
+    stopped (from k 5) (from-1 c.before.before.before.before ∙ step k 1 1 refl c.if-size-lt5.false) (sym c.word_differs.ensures ∙ c.if-word_differs.true)
 
 returns-5 : tie.Need-returns-then-size-lt9
 returns-5 c = c.bytes_differ-then-size-lt9.ensures ∙ sym (from-5 c.before.before)
 
 returns-6 : tie.Need-returns-then-word_differs-2
 returns-6 c =
-    let f = c in
-    let k = begun (first-passed f.before.before.before.before) in
-    stopped (from k 9) (from-5 f.before.before.before.before ∙ step k 5 2 refl f.if-size-lt9.false) (sym c.word_differs-2.ensures ∙ c.if-word_differs-2.true)
+    let k = begun (first-passed c.before.before.before.before) in
+    stopped (from k 9) (from-5 c.before.before.before.before ∙ step k 5 2 refl c.if-size-lt9.false) (sym c.word_differs-2.ensures ∙ c.if-word_differs-2.true)
 
 returns-7 : tie.Need-returns-then-size-lt13
 returns-7 c = c.bytes_differ-then-size-lt13.ensures ∙ sym (from-9 c.before.before)
 
 returns-8 : tie.Need-returns
 returns-8 c =
-    let f = c in
-    let k = begun (first-passed (second-passed f.before.before.before)) in
+    let k = begun (first-passed (second-passed c.before.before.before)) in
     let d = start k in
     let none : from k 13 ≡ false = like_end (piece k) _ 13 (omega (arith, long k, d.requires.0.size_is, size_small sysex8 (count_at sysex8 d.args.words.now d.args.packet))) in
-    c.word_differs-3.ensures ∙ sym (from-9 f.before.before.before ∙ step k 9 3 refl f.if-size-lt13.false ∙ rw none (or_false (one k 3 9)))
+    c.word_differs-3.ensures ∙ sym (from-9 c.before.before.before ∙ step k 9 3 refl c.if-size-lt13.false ∙ rw none (or_false (one k 3 9)))
 
 pub packet_differs_spec : {M : Type 1} → statement M
 packet_differs_spec =

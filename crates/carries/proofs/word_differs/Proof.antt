@@ -8,11 +8,9 @@ use Rattle.carries.proofs.word_differs.Tie as tie
 
 returns : tie.Need-returns
 returns c =
-    let known = c in
-    let d = known in
-    word-unlike d.args.word (omega (arith, d.ranges.word)) d.args.payload.now
-    (below_at 256 d.args.payload.now (λ k l. omega (arith, known.shared_slice_known-1.given k)))
-    d.args.at d.requires c.word_of-four.ensures
+    word-unlike c.args.word (omega (arith, c.ranges.word)) c.args.payload.now
+    (below_at 256 c.args.payload.now (λ k l. omega (arith, c.shared_slice_known-1.given k)))
+    c.args.at c.requires c.word_of-four.ensures
 
 pub word_differs_spec : {M : Type 1} → statement M
 word_differs_spec =

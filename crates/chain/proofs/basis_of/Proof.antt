@@ -13,46 +13,35 @@ use Rattle.chain.proofs.basis_of.Tie as tie
 
 returns : tie.Need-returns-then-is_whole
 returns c =
-    let w = c in
-    let y = w in
-    let k = y in
-    let f = k in
-    let x = f.args in
+    let x = c.args in
     record {
       small = tt;
       is = λ noted.
-          let stands = found_at x.store.now (f.find-found.ensures.stands noted) k.in-At.is in
-          sym (whole_base x.store.now k.in-At.at stands.1 (test_is is_whole w.is_whole.ensures y.byte.ensures c.if-is_whole.true))
-          ∙ ap base_of (ap (found_meaning x.store.now) (sym k.in-At.is) ∙ f.find-found.ensures.is noted);
+          let stands = found_at x.store.now (c.find-found.ensures.stands noted) c.in-At.is in
+          sym (whole_base x.store.now c.in-At.at stands.1 (test_is is_whole c.is_whole.ensures c.byte.ensures c.if-is_whole.true))
+          ∙ ap base_of (ap (found_meaning x.store.now) (sym c.in-At.is) ∙ c.find-found.ensures.is noted);
     }
 
 add-number-at : tie.Need-overflow_add-at
 add-number-at c =
-    let k = c in
-    let f = k in
-    let x = f.args in
-    omega (arith, found_within x.store.now f.find-found.ensures.inside k.in-At.is)
+    let x = c.args in
+    omega (arith, found_within x.store.now c.find-found.ensures.inside c.in-At.is)
 
 returns_2 : tie.Need-returns-in-Nothing
 returns_2 c =
-    let f = c in
-    let x = f.args in
-    record { small = tt; is = λ noted. ap base_of (ap (found_meaning x.store.now) (sym c.in-Nothing.is) ∙ f.find-found.ensures.is noted) }
+    let x = c.args in
+    record { small = tt; is = λ noted. ap base_of (ap (found_meaning x.store.now) (sym c.in-Nothing.is) ∙ c.find-found.ensures.is noted) }
 
 returns-3 : tie.Need-returns-else-is_whole
 returns-3 c =
-    let w = c in
-    let y = w in
-    let k = y in
-    let f = k in
-    let x = f.args in
+    let x = c.args in
     record {
       small = c.number_at.ensures.1;
       is = λ noted.
-          let stands = found_at x.store.now (f.find-found.ensures.stands noted) k.in-At.is in
+          let stands = found_at x.store.now (c.find-found.ensures.stands noted) c.in-At.is in
           ap some c.number_at.ensures.0
-          ∙ sym (delta_base x.store.now k.in-At.at stands.1 (test_is is_whole w.is_whole.ensures y.byte.ensures c.if-is_whole.false))
-          ∙ ap base_of (ap (found_meaning x.store.now) (sym k.in-At.is) ∙ f.find-found.ensures.is noted);
+          ∙ sym (delta_base x.store.now c.in-At.at stands.1 (test_is is_whole c.is_whole.ensures c.byte.ensures c.if-is_whole.false))
+          ∙ ap base_of (ap (found_meaning x.store.now) (sym c.in-At.is) ∙ c.find-found.ensures.is noted);
     }
 
 pub basis_of_spec : {M : Type 1} → statement M

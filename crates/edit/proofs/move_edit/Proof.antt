@@ -27,14 +27,12 @@ returns c = ap fault_of c.fault.ensures ∙ done_bad _ _ _ (sym c.is_bad.ensures
 
 returns_2 : tie.Need-returns-then-is_bad-2
 returns_2 c =
-    let t = c in
-    ap fault_of c.fault-then-is_bad-2.ensures ∙ pending_bad _ _ _ (done-good t.before.before.before) (sym t.is_bad-2.ensures ∙ c.if-is_bad-2.true)
+    ap fault_of c.fault-then-is_bad-2.ensures ∙ pending_bad _ _ _ (done-good c.before.before.before) (sym c.is_bad-2.ensures ∙ c.if-is_bad-2.true)
 
 returns-3 : tie.Need-returns-then-pending-done
 returns-3 c =
-    let t = c in
     ap fault_of c.fault-then-pending-done.ensures
-    ∙ first_overlaps _ _ _ (done-good t.before.before.before.before.before.before.before) (pending-good t.before.before.before.before.before) t.if-done_first.true c.if-pending-done.true
+    ∙ first_overlaps _ _ _ (done-good c.before.before.before.before.before.before.before) (pending-good c.before.before.before.before.before) c.if-done_first.true c.if-pending-done.true
 
 done-sound : (c : tie.Else-is_bad) → Sound (edit_meaning c.args.done)
 done-sound c = sound_has _ (done-good c)
@@ -44,33 +42,27 @@ pending-sound c = sound_has _ (pending-good c)
 
 moved-past-requires : tie.Need-moved_past-requires
 moved-past-requires c κs =
-    let t = c in
-    let s = pending-sound t.before.before.before.before in
-    (done-sound t.before.before.before.before.before.before, search rules, omega (arith, s.forward, s.end))
+    let s = pending-sound c.before.before.before.before in
+    (done-sound c.before.before.before.before.before.before, search rules, omega (arith, s.forward, s.end))
 
 moved-past-requires-2 : tie.Need-moved_past-requires-then-done_first
 moved-past-requires-2 c κs =
-    let t = c in
-    let s = pending-sound t.before.before.before.before.before in
-    (done-sound t.before.before.before.before.before.before.before, omega (arith, s.forward), s.end)
+    let s = pending-sound c.before.before.before.before.before in
+    (done-sound c.before.before.before.before.before.before.before, omega (arith, s.forward), s.end)
 
 returns-4 : tie.Need-returns-then-done-pending
 returns-4 c =
-    let t = c in
     ap fault_of c.fault-then-done-pending.ensures
-    ∙ last_overlaps _ _ _ (done-good t.before.before.before.before.before.before.before) (pending-good t.before.before.before.before.before) t.if-done_first.false c.if-done-pending.true
+    ∙ last_overlaps _ _ _ (done-good c.before.before.before.before.before.before.before) (pending-good c.before.before.before.before.before) c.if-done_first.false c.if-done-pending.true
 
 returns-5 : tie.Need-returns-else-pending-done
 returns-5 c =
-    let n = c in
-    let t = n in
     ap₂ (λ (from to : ℕ). gives (range from to)) c.moved_past.ensures c.moved_past-then-done_first.ensures
-    ∙ first_moves _ _ _ (done-good t.before.before.before.before.before.before.before.before) (pending-good t.before.before.before.before.before.before) t.if-done_first.true n.if-pending-done.false
+    ∙ first_moves _ _ _ (done-good c.before.before.before.before.before.before.before.before) (pending-good c.before.before.before.before.before.before) c.if-done_first.true c.if-pending-done.false
 
 returns-6 : tie.Need-returns-else-done-pending
 returns-6 c =
-    let t = c in
-    last_stays _ _ _ (done-good t.before.before.before.before.before.before) (pending-good t.before.before.before.before) t.if-done_first.false c.if-done-pending.false
+    last_stays _ _ _ (done-good c.before.before.before.before.before.before) (pending-good c.before.before.before.before) c.if-done_first.false c.if-done-pending.false
 
 pub move_edit_spec : {M : Type 1} → statement M
 move_edit_spec =

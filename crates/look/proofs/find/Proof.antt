@@ -18,27 +18,19 @@ returns_2 : tie.Need-returns-then-edit-size
 returns_2 c = c.out_of_range-then-edit-size.ensures ∙ find-outside _ _ _ (sound c.before.before.before) c.if-edit-size.true
 
 returns-3 : tie.Need-returns-then-position-edit
-returns-3 c = let o = c in find_before _ _ _ (sound o.before.before.before.before) o.if-edit-size.false c.if-position-edit.true
+returns-3 c = find_before _ _ _ (sound c.before.before.before.before) c.if-edit-size.false c.if-position-edit.true
 
 returns-4 : tie.Need-returns-then-within-edit
 returns-4 c =
-    let p = c in
-    let o = p in
-    find_within _ _ _ (sound o.before.before.before.before.before.before.before) o.if-edit-size.false p.if-position-edit.false c.if-within-edit.true
+    find_within _ _ _ (sound c.before.before.before.before.before.before.before) c.if-edit-size.false c.if-position-edit.false c.if-within-edit.true
 
 returns-5 : tie.Need-returns-then-behind-size
 returns-5 c =
-    let w = c in
-    let p = w in
-    let o = p in
-    find_behind _ _ _ (sound o.before.before.before.before.before.before.before.before.before.before.before) o.if-edit-size.false p.if-position-edit.false w.if-within-edit.false c.if-behind-size.true
+    find_behind _ _ _ (sound c.before.before.before.before.before.before.before.before.before.before.before) c.if-edit-size.false c.if-position-edit.false c.if-within-edit.false c.if-behind-size.true
 
 returns-6 : tie.Need-returns
 returns-6 c =
-    let w = c in
-    let p = w in
-    let o = p in
-    c.out_of_range-2.ensures ∙ find_beyond _ _ _ (sound o.before.before.before.before.before.before.before.before.before.before.before) o.if-edit-size.false p.if-position-edit.false w.if-within-edit.false c.if-behind-size.false
+    c.out_of_range-2.ensures ∙ find_beyond _ _ _ (sound c.before.before.before.before.before.before.before.before.before.before.before) c.if-edit-size.false c.if-position-edit.false c.if-within-edit.false c.if-behind-size.false
 
 pub find_spec : {M : Type 1} → statement M
 find_spec =

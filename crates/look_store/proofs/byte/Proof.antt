@@ -9,36 +9,26 @@ use Rattle.look_store.proofs.byte.Tie as tie
 
 array-share-prefix-places : tie.Need-slice_bounds-places-end
 array-share-prefix-places c =
-    let k = c in
-    let i = k in
-    (index_given i.index-checked.ensures (omega (arith, i.index-checked.auto.places)) k.in-Dumps.is).inside
+    (index_given c.index-checked.ensures (omega (arith, c.index-checked.auto.places)) c.in-Dumps.is).inside
 
 slice-aggregate-byte-noted : tie.Need-slice_bounds-byte_noted-end
 slice-aggregate-byte-noted c =
-    let k = c in
-    let i = k in
-    sym (index_given i.index-checked.ensures (omega (arith, i.index-checked.auto.places)) k.in-Dumps.is).long
+    sym (index_given c.index-checked.ensures (omega (arith, c.index-checked.auto.places)) c.in-Dumps.is).long
 
 byte-noted-requires : tie.Need-byte_noted-requires
 byte-noted-requires c κs =
-    let k = c in
-    let i = k in
-    let f = index_given i.index-checked.ensures (omega (arith, i.index-checked.auto.places)) k.in-Dumps.is in
+    let f = index_given c.index-checked.ensures (omega (arith, c.index-checked.auto.places)) c.in-Dumps.is in
     record { noted = f.noted; good = f.passes; few = omega (arith, f.long, f.few) }
 
 returns : tie.Need-returns-in-Refused
 returns c =
-    let k = c in
-    let i = k in
-    let x = i.args in
-    byte_unsound x.store.now x.number x.position (index_refused i.index-checked.ensures k.in-Refused.is)
+    let x = c.args in
+    byte_unsound x.store.now x.number x.position (index_refused c.index-checked.ensures c.in-Refused.is)
 
 returns_2 : tie.Need-returns-in-Dumps
 returns_2 c =
-    let k = c in
-    let i = k in
-    let x = i.args in
-    let f = index_given i.index-checked.ensures (omega (arith, i.index-checked.auto.places)) k.in-Dumps.is in
+    let x = c.args in
+    let f = index_given c.index-checked.ensures (omega (arith, c.index-checked.auto.places)) c.in-Dumps.is in
     c.byte_noted.ensures ∙ byte_is x.store.now x.number x.position f.passes
 
 pub byte_spec : {M : Type 1} → statement M

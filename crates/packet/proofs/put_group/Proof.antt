@@ -15,9 +15,8 @@ returns c = rw (lt-ltb 15 _ c.if-group-gt15.true)
 returns_2 : tie.Need-returns
 unfolding put_group
 returns_2 c =
-    let e = c in
-    let whole : e.args.group % 16 ≡ e.args.group = omega (arith, e.if-group-gt15.false) in
-    rw (le-ltb 15 _ e.if-group-gt15.false, c.with_group.ensures, whole)
+    let whole : c.args.group % 16 ≡ c.args.group = omega (arith, c.if-group-gt15.false) in
+    rw (le-ltb 15 _ c.if-group-gt15.false, c.with_group.ensures, whole)
 
 pub put_group_spec : {M : Type 1} → statement M
 put_group_spec =

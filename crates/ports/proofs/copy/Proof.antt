@@ -18,21 +18,19 @@ decreases-loop from begin count to₀ at index₀ to index = count - index
 loop-again : tie.Need-loop-index-preserved invariant-loop decreases-loop
 loop-again c =
     let l = c.loop-index in
-    let d = c in
-    let from = d.args.from.now in (
+    let from = c.args.from.now in (
       omega arith,
-      length-set l.to (d.args.at + l.index) (get_or from (d.args.begin + l.index) 0) ∙ l.invariant.1,
-      rw (l.invariant.2, add-one, ← (get_or-drop d.args.begin from l.index 0))
-          (paste-suc d.args.to.now d.args.at (drop d.args.begin from) l.index 0
-          (omega (arith, d.requires.1, c.loop-index-test.true))
-          (simp length-drop (omega (arith, d.requires.0, c.loop-index-test.true)))),
+      length-set l.to (c.args.at + l.index) (get_or from (c.args.begin + l.index) 0) ∙ l.invariant.1,
+      rw (l.invariant.2, add-one, ← (get_or-drop c.args.begin from l.index 0))
+          (paste-suc c.args.to.now c.args.at (drop c.args.begin from) l.index 0
+          (omega (arith, c.requires.1, c.loop-index-test.true))
+          (simp length-drop (omega (arith, c.requires.0, c.loop-index-test.true)))),
     )
 
 returns : tie.Need-returns invariant-loop decreases-loop
 returns c =
     let l = c.loop-index in
-    let d = c in
-    let e : l.index ≡ d.args.count = omega (arith, l.invariant.0, c.loop-index-test.false) in
+    let e : l.index ≡ c.args.count = omega (arith, l.invariant.0, c.loop-index-test.false) in
     rw e at l.invariant.2
 
 pub copy_spec : {M : Type 1} → statement M

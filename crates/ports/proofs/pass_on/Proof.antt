@@ -9,15 +9,11 @@ returns c words = rw c.refuse.ensures (complete_room _ words _ _ _ _ c.if-output
 
 returns_2 : tie.Need-returns-then-slot-lt16
 returns_2 c words =
-    let f = c in
-    let p = f in
-    rw p.copy.ensures (complete_closes _ words _ _ _ _ f.find-slot.ensures c.if-slot-lt16.true p.requires p.if-output-lt4.false)
+    rw c.copy.ensures (complete_closes _ words _ _ _ _ c.find-slot.ensures c.if-slot-lt16.true c.requires c.if-output-lt4.false)
 
 returns-3 : tie.Need-returns-else-slot-lt16
 returns-3 c words =
-    let f = c in
-    let p = f in
-    rw p.copy.ensures (complete_alone _ words _ _ _ _ f.find-slot.ensures c.if-slot-lt16.false p.requires p.if-output-lt4.false)
+    rw c.copy.ensures (complete_alone _ words _ _ _ _ c.find-slot.ensures c.if-slot-lt16.false c.requires c.if-output-lt4.false)
 
 pub pass_on_spec : {M : Type 1} → statement M
 pass_on_spec =

@@ -22,11 +22,10 @@ decreases-loop table port key free₀ held₀ slot₀ free share_of slot = 16 - 
 
 loop-again : tie.Need-loop-slot-preserved invariant-loop decreases-loop
 loop-again c =
-    let e = c in
-    let l = e.loop-slot in
+    let l = c.loop-slot in
     let inv = l.invariant in
     let more = count_more _ l.slot inv.2 inv.3 c.counted-held.ensures in (
-      passed_one inv.0 e.loop-slot-test.true (ne_eqb _ _ e.if-here-key.false),
+      passed_one inv.0 c.loop-slot-test.true (ne_eqb _ _ c.if-here-key.false),
       first_more _ l.slot inv.1 c.free_after-free.ensures,
       more.0,
       more.1,

@@ -28,10 +28,9 @@ inner c =
 
 returns : tie.Need-returns-then-ahead-here invariant-loop decreases-loop
 returns c =
-    let t = c in
-    let a = t.args in
-    let l = t.loop-packet in
-    let k = t.standing-here in
+    let a = c.args in
+    let l = c.loop-packet in
+    let k = c.standing-here in
     let e : c.octet_of.result ≡ byte_at sysex8 a.words.now l.packet (l.byte + l.ahead) = c.octet_of.ensures in
     rw e
     (found sysex8 a.words.now l.packet l.byte k.result (omega arith) k.ensures l.ahead (cursor_meaning a.cursor) a.skip

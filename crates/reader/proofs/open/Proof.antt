@@ -15,8 +15,7 @@ returns c = rw (not_taken sysex8 _ _ (sym c.check-checked.ensures ∙ ap check_m
 returns_2 : tie.Need-returns-in-Message
 unfolding reader
 returns_2 c =
-    let k = c in
-    let m = taken sysex8 _ _ (sym k.check-checked.ensures ∙ ap check_meaning8 k.in-Message.is) in
+    let m = taken sysex8 _ _ (sym c.check-checked.ensures ∙ ap check_meaning8 c.in-Message.is) in
     rw (m.passes, m.sized)
 
 pub open_spec : {M : Type 1} → statement M

@@ -6,8 +6,8 @@ use Rattle.ump.specs.Packet.{sysex8, size_of, size_at}
 use Rattle.reader.proofs.standing.Statement.{statement}
 use Rattle.reader.proofs.standing.Tie as tie
 
-size_is : (c : tie.After-sysex8_size-size) → let d = c in
-    c.sysex8_size-size.result ≡ size_at sysex8 d.args.words.now d.args.packet
+size_is : (c : tie.After-sysex8_size-size) →
+    c.sysex8_size-size.result ≡ size_at sysex8 c.args.words.now c.args.packet
 size_is c = c.sysex8_size-size.ensures ∙ ap (size_of sysex8) c.count_of.ensures
 
 pub standing_spec : {M : Type 1} → statement M

@@ -14,31 +14,21 @@ returns c =
 
 array-share-prefix-places : tie.Need-slice_bounds-places-end
 array-share-prefix-places c =
-    let k = c in
-    let i = k in
-    (index_given i.index-checked.ensures (omega (arith, i.index-checked.auto.places)) k.in-Dumps.is).inside
+    (index_given c.index-checked.ensures (omega (arith, c.index-checked.auto.places)) c.in-Dumps.is).inside
 
 slice-aggregate-restore-noted : tie.Need-slice_bounds-restore_noted-end
 slice-aggregate-restore-noted c =
-    let k = c in
-    let i = k in
-    sym (index_given i.index-checked.ensures (omega (arith, i.index-checked.auto.places)) k.in-Dumps.is).long
+    sym (index_given c.index-checked.ensures (omega (arith, c.index-checked.auto.places)) c.in-Dumps.is).long
 
 restore-noted-requires : tie.Need-restore_noted-requires
 restore-noted-requires c κs =
-    let k = c in
-    let i = k in
-    let e = i in
-    let f = index_given i.index-checked.ensures (omega (arith, i.index-checked.auto.places)) k.in-Dumps.is in
-    record { noted = f.noted; good = f.passes; few = omega (arith, f.long, f.few); lent = e.if-words-gt-MOST_WORDS.false }
+    let f = index_given c.index-checked.ensures (omega (arith, c.index-checked.auto.places)) c.in-Dumps.is in
+    record { noted = f.noted; good = f.passes; few = omega (arith, f.long, f.few); lent = c.if-words-gt-MOST_WORDS.false }
 
 returns_2 : tie.Need-returns-in-Refused
 returns_2 c =
-    let k = c in
-    let i = k in
-    let e = i in
-    let x = e.args in
-    restore_unsound x.store.now x.number x.words.now e.if-words-gt-MOST_WORDS.false (index_refused i.index-checked.ensures k.in-Refused.is)
+    let x = c.args in
+    restore_unsound x.store.now x.number x.words.now c.if-words-gt-MOST_WORDS.false (index_refused c.index-checked.ensures c.in-Refused.is)
 
 pub restore_spec : {M : Type 1} → statement M
 restore_spec =

@@ -6,8 +6,7 @@ use Rattle.restore.proofs.restore_large.Tie as tie
 
 restore-in-requires : tie.Need-restore_in-requires
 restore-in-requires c κs =
-    let s = c in
-    (s.requires, (omega (arith, s.requires.lent), omega (arith, s.requires.lent)))
+    (c.requires, (omega (arith, c.requires.lent), omega (arith, c.requires.lent)))
 
 pub restore_large_spec : {M : Type 1} → statement M
 restore_large_spec = tie.close (tie.spec (λ c. search rules) (λ c. search rules) restore-in-requires (λ c. search rules) (λ c. search rules))

@@ -13,4 +13,4 @@ bad_frame_spec =
     (λ c. rw (le-ltb _ _ c.if-bytes-lt2.false, ne_eqb _ _ c.if-bytes.true))
     (λ c. search rules)
     (λ c. search rules)
-    (λ c. let e = c in rw (le-ltb _ _ e.if-bytes-lt2.false, eq-eqb _ _ e.if-bytes.false)))
+    (λ c. rw (le-ltb _ _ c.if-bytes-lt2.false, eq-eqb _ _ c.if-bytes.false)))

@@ -16,18 +16,16 @@ decreases-loop bytes limit number₀ at₀ number at = length bytes - at
 
 loop-again : tie.Need-loop-at-preserved invariant-loop decreases-loop
 loop-again c =
-    let l = c in
-    let e : l.loop-at.at + 192 - l.loop-at.at ≡ 192 = omega arith in
-    rw (c.count_few-in-loop-at.ensures, e) (counted_more l.loop-at.invariant 192 (omega arith))
+    let e : c.loop-at.at + 192 - c.loop-at.at ≡ 192 = omega arith in
+    rw (c.count_few-in-loop-at.ensures, e) (counted_more c.loop-at.invariant 192 (omega arith))
 
 -- what is left is counted by itself
-rest : (c : tie.After-count_few-2 invariant-loop decreases-loop) → let l = c in
-    Counted l.args.bytes.now l.args.limit (length l.args.bytes.now) (l.loop-at.number + c.count_few-2.result)
+rest : (c : tie.After-count_few-2 invariant-loop decreases-loop) →
+    Counted c.args.bytes.now c.args.limit (length c.args.bytes.now) (c.loop-at.number + c.count_few-2.result)
 rest c =
-    let l = c in
-    let n = length l.args.bytes.now - l.loop-at.at in
-    let e : l.loop-at.at + n ≡ length l.args.bytes.now = omega (arith, l.loop-at.invariant.within) in
-    rw c.count_few-2.ensures (rw e at (counted_more l.loop-at.invariant n (omega arith)))
+    let n = length c.args.bytes.now - c.loop-at.at in
+    let e : c.loop-at.at + n ≡ length c.args.bytes.now = omega (arith, c.loop-at.invariant.within) in
+    rw c.count_few-2.ensures (rw e at (counted_more c.loop-at.invariant n (omega arith)))
 
 pub count_below_spec : {M : Type 1} → statement M
 count_below_spec =
@@ -44,7 +42,7 @@ count_below_spec =
     (λ c. search rules)
     (λ c. search rules)
     (λ c. search rules)
-    (λ c κs. let l = c in omega (arith, length-take (l.loop-at.at + 192 - l.loop-at.at) (drop l.loop-at.at l.args.bytes.now)))
+    (λ c κs. omega (arith, length-take (c.loop-at.at + 192 - c.loop-at.at) (drop c.loop-at.at c.args.bytes.now)))
     (λ c. search rules)
     (λ c. omega (arith, counted_most (loop-again c)))
     (λ c. search rules)
@@ -52,7 +50,7 @@ count_below_spec =
     (λ c. search rules)
     (λ c. search rules)
     (λ c. search rules)
-    (λ c κs. let l = c in let s = l.args.bytes.now in omega (arith, length-take (length s - l.loop-at.at) (drop l.loop-at.at s)))
+    (λ c κs. let s = c.args.bytes.now in omega (arith, length-take (length s - c.loop-at.at) (drop c.loop-at.at s)))
     (λ c. search rules)
     (λ c. omega (arith, counted_most (rest c)))
     (λ c. counted_all (rest c) (omega arith)))

@@ -9,8 +9,7 @@ use Rattle.stream.proofs.data_size.Tie as tie
 
 returns : tie.Need-returns-then-septets-inner
 returns c =
-    let s = c in
-    omega (arith, s.requires, c.if-septets-inner.true, (sorted s.args.inner.now).fewer, length_without s.args.inner.now)
+    omega (arith, c.requires, c.if-septets-inner.true, (sorted c.args.inner.now).fewer, length_without c.args.inner.now)
 
 pub data_size_spec : {M : Type 1} → statement M
 data_size_spec =

@@ -13,23 +13,18 @@ byte c i = omega (arith, c.shared_slice_known-1.given i)
 
 long : (c : tie.Then-count-eq6) → let a = c.args in a.at + 6 ≤ length a.inner.now
 long c =
-    let s = c in
-    six_stand s.args.inner.now s.args.at (omega (arith, s.requires, c.if-count-eq6.true))
+    six_stand c.args.inner.now c.args.at (omega (arith, c.requires, c.if-count-eq6.true))
 
 returns : tie.Need-returns-then-high-low-eq0
 returns c =
-    let f = c in
-    let w = f in
-    let t = w in
-    rw (w.two_at-high.ensures.0, f.four_at-low.ensures)
-    (took_row _ (byte t.before.before.before.before) t.args.at (long t.before.before.before) (rw (w.two_at-high.ensures.0, f.four_at-low.ensures) at c.if-high-low-eq0.true))
+    rw (c.two_at-high.ensures.0, c.four_at-low.ensures)
+    (took_row _ (byte c.before.before.before.before) c.args.at (long c.before.before.before) (rw (c.two_at-high.ensures.0, c.four_at-low.ensures) at c.if-high-low-eq0.true))
 
 returns_2 : tie.Need-returns
 returns_2 c =
-    let k = c in
-    let a = k.args in
+    let a = c.args in
     rw c.filled.ensures.1
-    (took_six a.count (onward_below a.inner.now a.at (byte k.before.before.before)) k.requires c.take_bytes.ensures c.filled.ensures.0)
+    (took_six a.count (onward_below a.inner.now a.at (byte c.before.before.before)) c.requires c.take_bytes.ensures c.filled.ensures.0)
 
 pub take_six_spec : {M : Type 1} → statement M
 take_six_spec =

@@ -7,9 +7,8 @@ use Rattle.stream.proofs.two_at.Tie as tie
 
 returns : tie.Need-returns
 returns c =
-    let s = c in
-    let at = s.args.at in
-    (omega (arith, c.word_of.ensures), omega (arith, c.word_of.ensures, s.shared_slice_known-1.given at, s.shared_slice_known-1.given (at + 1)))
+    let at = c.args.at in
+    (omega (arith, c.word_of.ensures), omega (arith, c.word_of.ensures, c.shared_slice_known-1.given at, c.shared_slice_known-1.given (at + 1)))
 
 pub two_at_spec : {M : Type 1} → statement M
 two_at_spec = tie.close (tie.spec (λ c. search rules) (λ c. search rules) (λ c. search rules) (λ c κs. search rules) returns)

@@ -18,26 +18,21 @@ decreases-loop store at place₀ place = length store - place
 
 loop-less : tie.Need-loop-place-smaller invariant-loop decreases-loop
 loop-less c =
-    let t = c in
-    let l = t in
-    let h = data_inside l.args.store.now l.loop-place.place (test_is is_data t.is_data.ensures t.byte.ensures t.loop-place-test.true) in
+    let h = data_inside c.args.store.now c.loop-place.place (test_is is_data c.is_data.ensures c.byte.ensures c.loop-place-test.true) in
     omega (arith, h, (c.next-place.ensures.on h).0)
 
 loop-again : tie.Need-loop-place-preserved invariant-loop decreases-loop
 loop-again c =
-    let t = c in
-    let l = t in
-    let store = l.args.store.now in
-    let here = test_is is_data t.is_data.ensures t.byte.ensures t.loop-place-test.true in
-    let h = data_inside store l.loop-place.place here in (
-      ap (λ (k : ℕ). patches_in (records_from store k)) (c.next-place.ensures.is h) ∙ sym (patches_data store l.loop-place.place here) ∙ l.loop-place.invariant.0,
-      omega (arith, (c.next-place.ensures.on h).0, l.loop-place.invariant.1),
+    let store = c.args.store.now in
+    let here = test_is is_data c.is_data.ensures c.byte.ensures c.loop-place-test.true in
+    let h = data_inside store c.loop-place.place here in (
+      ap (λ (k : ℕ). patches_in (records_from store k)) (c.next-place.ensures.is h) ∙ sym (patches_data store c.loop-place.place here) ∙ c.loop-place.invariant.0,
+      omega (arith, (c.next-place.ensures.on h).0, c.loop-place.invariant.1),
     )
 
 returns : tie.Need-returns invariant-loop decreases-loop
 returns c =
-    let l = c in
-    record { rest = l.loop-place.invariant.0; stops = test_is is_data c.is_data.ensures c.byte.ensures c.loop-place-test.false; on = l.loop-place.invariant.1 }
+    record { rest = c.loop-place.invariant.0; stops = test_is is_data c.is_data.ensures c.byte.ensures c.loop-place-test.false; on = c.loop-place.invariant.1 }
 
 pub skip_data_spec : {M : Type 1} → statement M
 skip_data_spec =

@@ -20,38 +20,31 @@ decreases-loop store at size place₀ place = length store - place
 
 is-bad-edit-requires : tie.Need-is_bad_edit-requires invariant-loop decreases-loop
 is-bad-edit-requires c κs =
-    let l = c in
-    part_inside l.args.store.now l.loop-at.place (test_is is_part c.is_part.ensures c.byte.ensures c.loop-at-test.true)
+    part_inside c.args.store.now c.loop-at.place (test_is is_part c.is_part.ensures c.byte.ensures c.loop-at-test.true)
 
 returns : tie.Need-returns-then-is_bad_edit invariant-loop decreases-loop
 returns c =
-    let l = c in
-    let x = l.args in
-    out_bad x.store.now l.loop-at.place x.size (sym c.is_bad_edit.ensures ∙ c.if-is_bad_edit.true) ∙ sym l.loop-at.invariant
+    let x = c.args in
+    out_bad x.store.now c.loop-at.place x.size (sym c.is_bad_edit.ensures ∙ c.if-is_bad_edit.true) ∙ sym c.loop-at.invariant
 
 loop-less : tie.Need-loop-at-smaller invariant-loop decreases-loop
 loop-less c =
-    let t = c in
-    let l = t in
-    let h = part_inside l.args.store.now l.loop-at.place (test_is is_part t.is_part.ensures t.byte.ensures t.loop-at-test.true) in
+    let h = part_inside c.args.store.now c.loop-at.place (test_is is_part c.is_part.ensures c.byte.ensures c.loop-at-test.true) in
     omega (arith, h, (c.next-place.ensures.on h).0)
 
 loop-again : tie.Need-loop-at-preserved invariant-loop decreases-loop
 loop-again c =
-    let t = c in
-    let l = t in
-    let x = l.args in
-    let part = test_is is_part t.is_part.ensures t.byte.ensures t.loop-at-test.true in
-    l.loop-at.invariant
-    ∙ out_past x.store.now l.loop-at.place x.size part
+    let x = c.args in
+    let part = test_is is_part c.is_part.ensures c.byte.ensures c.loop-at-test.true in
+    c.loop-at.invariant
+    ∙ out_past x.store.now c.loop-at.place x.size part
     (sym c.is_bad_edit.ensures ∙ c.if-is_bad_edit.false)
-    ∙ ap (λ (k : ℕ). outside x.size (patches_in (records_from x.store.now k))) (sym (c.next-place.ensures.is (part_inside x.store.now l.loop-at.place part)))
+    ∙ ap (λ (k : ℕ). outside x.size (patches_in (records_from x.store.now k))) (sym (c.next-place.ensures.is (part_inside x.store.now c.loop-at.place part)))
 
 returns_2 : tie.Need-returns invariant-loop decreases-loop
 returns_2 c =
-    let l = c in
-    let x = l.args in
-    out_stop x.store.now l.loop-at.place x.size (test_is is_part c.is_part.ensures c.byte.ensures c.loop-at-test.false) ∙ sym l.loop-at.invariant
+    let x = c.args in
+    out_stop x.store.now c.loop-at.place x.size (test_is is_part c.is_part.ensures c.byte.ensures c.loop-at-test.false) ∙ sym c.loop-at.invariant
 
 pub some_outside_spec : {M : Type 1} → statement M
 some_outside_spec =

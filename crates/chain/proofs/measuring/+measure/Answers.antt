@@ -1,5 +1,5 @@
 -- The recursion of `chain::measuring::measure`: its base, then itself. Assumes nothing.
-use Rattle.std.proofs.Common.{◌≡◌, ◌∙◌, ◌-◌, sym, ap, arith}
+use Rattle.std.proofs.Common.{◌∙◌, ◌-◌, sym, ap, arith}
 use mathlib.Core.Option.{some}
 use Rattle.refusal.specs.declared.Refusal.TheVariants.{Missing, Ring}
 use Rattle.store.specs.Store.{is_whole, Dump, dumps_of}

@@ -17,26 +17,19 @@ decreases-loop store at place₀ size₀ place size = length store - place
 
 add-size : tie.Need-overflow_add-size invariant-loop decreases-loop
 add-size c =
-    let t = c in
-    let l = t in
-    let h = data_inside l.args.store.now l.loop-size.place (test_is is_data t.is_data.ensures t.byte.ensures t.loop-size-test.true) in
-    omega (arith, l.loop-size.invariant.fewer, c.body_here-size.ensures.inside h)
+    let h = data_inside c.args.store.now c.loop-size.place (test_is is_data c.is_data.ensures c.byte.ensures c.loop-size-test.true) in
+    omega (arith, c.loop-size.invariant.fewer, c.body_here-size.ensures.inside h)
 
 loop-less : tie.Need-loop-size-smaller invariant-loop decreases-loop
 loop-less c =
-    let t = c in
-    let l = t in
-    let h = data_inside l.args.store.now l.loop-size.place (test_is is_data t.is_data.ensures t.byte.ensures t.loop-size-test.true) in
+    let h = data_inside c.args.store.now c.loop-size.place (test_is is_data c.is_data.ensures c.byte.ensures c.loop-size-test.true) in
     omega (arith, h, (c.next-place.ensures.on h).0)
 
 loop-again : tie.Need-loop-size-preserved invariant-loop decreases-loop
 loop-again c =
-    let b = c in
-    let t = b in
-    let l = t in
-    let here = test_is is_data t.is_data.ensures t.byte.ensures t.loop-size-test.true in
-    let h = data_inside l.args.store.now l.loop-size.place here in
-    counting_more l.loop-size.invariant here _ b.body_here-size.ensures.body (b.body_here-size.ensures.inside h) (c.next-place.ensures.is h)
+    let here = test_is is_data c.is_data.ensures c.byte.ensures c.loop-size-test.true in
+    let h = data_inside c.args.store.now c.loop-size.place here in
+    counting_more c.loop-size.invariant here _ c.body_here-size.ensures.body (c.body_here-size.ensures.inside h) (c.next-place.ensures.is h)
 
 returns : tie.Need-returns invariant-loop decreases-loop
 returns c = counting_end c.loop-size.invariant (test_is is_data c.is_data.ensures c.byte.ensures c.loop-size-test.false)

@@ -14,35 +14,26 @@ use Rattle.chain.proofs.measuring.measure_delta.Tie as tie
 
 returns : tie.Need-returns-then-some_outside
 returns c =
-    let o = c in
-    let s = o in
-    let x = s.args in
+    let x = c.args in
     delta_refused _ x.base
-    (ap (λ (k : ℕ). outside x.base.size (patches_in (records_from x.store.now k))) (sym (o.next-place.ensures.is s.requires.0)) ∙ sym o.some_outside.ensures ∙ c.if-some_outside.true)
+    (ap (λ (k : ℕ). outside x.base.size (patches_in (records_from x.store.now k))) (sym (c.next-place.ensures.is c.requires.0)) ∙ sym c.some_outside.ensures ∙ c.if-some_outside.true)
 
 measure-edits-requires : tie.Need-measure_edits-size-requires
 measure-edits-requires c κs =
-    let o = c in
-    let s = o in
-    (s.requires.1.0, (sym o.some_outside.ensures ∙ c.if-some_outside.false, rw (o.next-place.ensures.is s.requires.0) s.requires.1.1.1))
+    (c.requires.1.0, (sym c.some_outside.ensures ∙ c.if-some_outside.false, rw (c.next-place.ensures.is c.requires.0) c.requires.1.1.1))
 
 returns_2 : tie.Need-returns
 returns_2 c =
-    let g = c in
-    let m = g in
-    let e = m in
-    let o = e in
-    let s = o in
-    let x = s.args in
-    let place = o.next-place.ensures.is s.requires.0 in
-    let new : Becomes _ _ _ = rw place at m.measure_edits-size.ensures in
+    let x = c.args in
+    let place = c.next-place.ensures.is c.requires.0 in
+    let new : Becomes _ _ _ = rw place at c.measure_edits-size.ensures in
     delta_measured _ x.base
     (record {
-      good = ap (λ (k : ℕ). outside x.base.size (patches_in (records_from x.store.now k))) (sym place) ∙ sym o.some_outside.ensures ∙ e.if-some_outside.false;
+      good = ap (λ (k : ℕ). outside x.base.size (patches_in (records_from x.store.now k))) (sym place) ∙ sym c.some_outside.ensures ∙ c.if-some_outside.false;
       group = refl;
       id = refl;
       size = new;
-      largest_is = g.greater.ensures;
+      largest_is = c.greater.ensures;
       steps = add-one x.base.steps;
     })
 
@@ -55,5 +46,5 @@ measure_delta_spec =
     returns
     measure-edits-requires
     (λ c κs. search rules)
-    (λ c. let s = c in omega (arith, s.requires.1.1.0))
+    (λ c. omega (arith, c.requires.1.1.0))
     returns_2)

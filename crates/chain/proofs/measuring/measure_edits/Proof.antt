@@ -18,110 +18,65 @@ decreases-loop store at size place₀ end₀ done₀ place end done = length sto
 
 loop-holds : tie.Need-loop-reached-init invariant-loop decreases-loop
 loop-holds c =
-    let s = c in
-    putting_start s.args.store.now s.args.at s.args.size s.requires.1.0 s.requires.1.1 c.skip_data-place.ensures
+    putting_start c.args.store.now c.args.at c.args.size c.requires.1.0 c.requires.1.1 c.skip_data-place.ensures
 
 add-number-at : tie.Need-overflow_add-place invariant-loop decreases-loop
 add-number-at c =
-    let t = c in
-    let l = t in
-    let s = l in
-    omega (arith, edit_inside s.args.store.now l.loop-reached.place (test_is is_edit t.is_edit.ensures t.byte.ensures t.loop-reached-test.true))
+    omega (arith, edit_inside c.args.store.now c.loop-reached.place (test_is is_edit c.is_edit.ensures c.byte.ensures c.loop-reached-test.true))
 
 sub-done : tie.Need-overflow_sub-done invariant-loop decreases-loop
 sub-done c =
-    let m = c in
-    let x = m in
-    let t = x in
-    let l = t in
-    let s = l in
-    let store = s.args.store.now in
-    let e = test_is is_edit t.is_edit.ensures t.byte.ensures t.loop-reached-test.true in
-    let h = edit_inside store l.loop-reached.place e in
-    omega (arith, edit_early l.loop-reached.invariant e, c.number_at.ensures.0)
+    let store = c.args.store.now in
+    let e = test_is is_edit c.is_edit.ensures c.byte.ensures c.loop-reached-test.true in
+    let h = edit_inside store c.loop-reached.place e in
+    omega (arith, edit_early c.loop-reached.invariant e, c.number_at.ensures.0)
 
 add_done : tie.Need-overflow_add-done invariant-loop decreases-loop
 add_done c =
-    let n = c in
-    let m = n in
-    let x = m in
-    let t = x in
-    let l = t in
-    let s = l in
-    let store = s.args.store.now in
-    let e = test_is is_edit t.is_edit.ensures t.byte.ensures t.loop-reached-test.true in
-    let h = edit_inside store l.loop-reached.place e in
-    let r : DataSized _ _ _ = rw (x.next.ensures.is h) at m.measure_data-reached.ensures in
-    omega (arith, h, r.inside, n.number_at.ensures.1)
+    let store = c.args.store.now in
+    let e = test_is is_edit c.is_edit.ensures c.byte.ensures c.loop-reached-test.true in
+    let h = edit_inside store c.loop-reached.place e in
+    let r : DataSized _ _ _ = rw (c.next.ensures.is h) at c.measure_data-reached.ensures in
+    omega (arith, h, r.inside, c.number_at.ensures.1)
 
 add-done-2 : tie.Need-overflow_add-done-in-loop-reached invariant-loop decreases-loop
 add-done-2 c =
-    let n = c in
-    let m = n in
-    let x = m in
-    let t = x in
-    let l = t in
-    let s = l in
-    let store = s.args.store.now in
-    let e = test_is is_edit t.is_edit.ensures t.byte.ensures t.loop-reached-test.true in
-    let h = edit_inside store l.loop-reached.place e in
-    let r : DataSized _ _ _ = rw (x.next.ensures.is h) at m.measure_data-reached.ensures in
-    omega (arith, h, r.inside, l.loop-reached.invariant.fewer, edit_early l.loop-reached.invariant e, n.number_at.ensures.0, n.number_at.ensures.1)
+    let store = c.args.store.now in
+    let e = test_is is_edit c.is_edit.ensures c.byte.ensures c.loop-reached-test.true in
+    let h = edit_inside store c.loop-reached.place e in
+    let r : DataSized _ _ _ = rw (c.next.ensures.is h) at c.measure_data-reached.ensures in
+    omega (arith, h, r.inside, c.loop-reached.invariant.fewer, edit_early c.loop-reached.invariant e, c.number_at.ensures.0, c.number_at.ensures.1)
 
 add-number-at-2 : tie.Need-overflow_add-place-in-loop-reached invariant-loop decreases-loop
 add-number-at-2 c =
-    let n = c in
-    let m = n in
-    let x = m in
-    let t = x in
-    let l = t in
-    let s = l in
-    let store = s.args.store.now in
-    let e = test_is is_edit t.is_edit.ensures t.byte.ensures t.loop-reached-test.true in
-    let h = edit_inside store l.loop-reached.place e in
+    let store = c.args.store.now in
+    let e = test_is is_edit c.is_edit.ensures c.byte.ensures c.loop-reached-test.true in
+    let h = edit_inside store c.loop-reached.place e in
     omega (arith, h)
 
 loop-less : tie.Need-loop-reached-smaller invariant-loop decreases-loop
 loop-less c =
-    let k = c in
-    let n = k in
-    let m = n in
-    let x = m in
-    let t = x in
-    let l = t in
-    let s = l in
-    let store = s.args.store.now in
-    let e = test_is is_edit t.is_edit.ensures t.byte.ensures t.loop-reached-test.true in
-    let h = edit_inside store l.loop-reached.place e in
-    let r : DataSized _ _ _ = rw (x.next.ensures.is h) at m.measure_data-reached.ensures in
+    let store = c.args.store.now in
+    let e = test_is is_edit c.is_edit.ensures c.byte.ensures c.loop-reached-test.true in
+    let h = edit_inside store c.loop-reached.place e in
+    let r : DataSized _ _ _ = rw (c.next.ensures.is h) at c.measure_data-reached.ensures in
     omega (arith, h, r.fewer)
 
 loop-again : tie.Need-loop-reached-preserved invariant-loop decreases-loop
 loop-again c =
-    let k = c in
-    let n = k in
-    let m = n in
-    let x = m in
-    let t = x in
-    let l = t in
-    let s = l in
-    let store = s.args.store.now in
-    let e = test_is is_edit t.is_edit.ensures t.byte.ensures t.loop-reached-test.true in
-    let h = edit_inside store l.loop-reached.place e in
-    let r : DataSized _ _ _ = rw (x.next.ensures.is h) at m.measure_data-reached.ensures in
-    putting_more l.loop-reached.invariant e r n.number_at.ensures.0 c.number_at-end.ensures.0
+    let store = c.args.store.now in
+    let e = test_is is_edit c.is_edit.ensures c.byte.ensures c.loop-reached-test.true in
+    let h = edit_inside store c.loop-reached.place e in
+    let r : DataSized _ _ _ = rw (c.next.ensures.is h) at c.measure_data-reached.ensures in
+    putting_more c.loop-reached.invariant e r c.number_at.ensures.0 c.number_at-end.ensures.0
 
 sub-result : tie.Need-overflow_sub-result invariant-loop decreases-loop
 sub-result c =
-    let l = c in
-    let s = l in
-    omega (arith, l.loop-reached.invariant.inside)
+    omega (arith, c.loop-reached.invariant.inside)
 
 add-result : tie.Need-overflow_add-result invariant-loop decreases-loop
 add-result c =
-    let l = c in
-    let s = l in
-    omega (arith, l.loop-reached.invariant.inside, l.loop-reached.invariant.bounded, s.requires.0)
+    omega (arith, c.loop-reached.invariant.inside, c.loop-reached.invariant.bounded, c.requires.0)
 
 returns : tie.Need-returns invariant-loop decreases-loop
 returns c = putting_end c.loop-reached.invariant (test_is is_edit c.is_edit.ensures c.byte.ensures c.loop-reached-test.false)

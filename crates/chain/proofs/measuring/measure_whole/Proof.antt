@@ -9,11 +9,9 @@ use Rattle.chain.proofs.measuring.measure_whole.Tie as tie
 
 returns : tie.Need-returns
 returns c =
-    let m = c in
-    let s = m in
-    let x = s.args in
-    let dump = whole_dump (get_or x.store.now x.at 0) s.requires.1 in
-    let r : DataSized _ _ _ = rw (m.next.ensures.is s.requires.0) at m.measure_data-reached.ensures in
+    let x = c.args in
+    let dump = whole_dump (get_or x.store.now x.at 0) c.requires.1 in
+    let r : DataSized _ _ _ = rw (c.next.ensures.is c.requires.0) at c.measure_data-reached.ensures in
     record {
       group = c.byte.ensures ∙ group_here x.store.now x.at dump;
       id = c.byte-2.ensures ∙ id_here x.store.now x.at dump;

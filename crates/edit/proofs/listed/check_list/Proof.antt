@@ -21,7 +21,7 @@ fit : (c : tie.Else-found-eq0) → let a = c.args in widths (edits_of a.numbers.
 fit c = let l = list_passes _ _ _ (found c).0 in widths_fit _ _ l.good l.apart
 
 returns : tie.Need-returns-then-found-eq0
-returns c = let t = c in listed_fault _ _ _ (c.why.ensures (cut_none _ _ _ t.cut_found-found.ensures t.if-found-eq0.true))
+returns c = listed_fault _ _ _ (c.why.ensures (cut_none _ _ _ c.cut_found-found.ensures c.if-found-eq0.true))
 
 returns_2 : tie.Need-returns
 returns_2 c =

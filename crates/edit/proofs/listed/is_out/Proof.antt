@@ -18,13 +18,11 @@ returns_2 : tie.Need-returns-then-edit-size
 returns_2 c = rw (sound c.before.before, lt-ltb _ _ c.if-edit-size.true)
 
 returns-3 : tie.Need-returns-then-edit-left
-returns-3 c = let o = c in rw (sound o.before.before.before.before, le-ltb _ _ o.if-edit-size.false, lt-ltb _ _ c.if-edit-left.true)
+returns-3 c = rw (sound c.before.before.before.before, le-ltb _ _ c.if-edit-size.false, lt-ltb _ _ c.if-edit-left.true)
 
 returns-4 : tie.Need-returns
 returns-4 c =
-    let p = c in
-    let o = p in
-    rw (sound o.before.before.before.before.before, le-ltb _ _ o.if-edit-size.false, le-ltb _ _ p.if-edit-left.false)
+    rw (sound c.before.before.before.before.before, le-ltb _ _ c.if-edit-size.false, le-ltb _ _ c.if-edit-left.false)
 
 pub is_out_spec : {M : Type 1} → statement M
 is_out_spec = tie.close (tie.spec (λ c κs. search rules) returns returns_2 returns-3 returns-4)

@@ -13,14 +13,11 @@ decreases-loop numbers bytes count left₀ index₀ left index = count - index
 
 returns : tie.Need-returns-then-edit-left invariant-loop decreases-loop
 returns c =
-    let l = c in
-    left_short l.loop-index.invariant l.loop-index-test.true c.edit_at-edit.ensures c.if-edit-left.true
+    left_short c.loop-index.invariant c.loop-index-test.true c.edit_at-edit.ensures c.if-edit-left.true
 
 loop-again : tie.Need-loop-index-preserved invariant-loop decreases-loop
 loop-again c =
-    let t = c in
-    let l = t in
-    left_on l.loop-index.invariant l.loop-index-test.true t.edit_at-edit.ensures t.if-edit-left.false
+    left_on c.loop-index.invariant c.loop-index-test.true c.edit_at-edit.ensures c.if-edit-left.false
 
 pub lengths_differ_spec : {M : Type 1} → statement M
 lengths_differ_spec =

@@ -17,25 +17,20 @@ decreases-loop numbers size count index₀ index = count - index
 
 returns : tie.Need-returns-then-is_bad invariant-loop decreases-loop
 returns c =
-    let l = c in
-    bad_here _ _ l.loop-index-test.true c.edit_at-edit.ensures _ (sym c.is_bad.ensures ∙ c.if-is_bad.true)
-    ∙ sym l.loop-index.invariant.1
+    bad_here _ _ c.loop-index-test.true c.edit_at-edit.ensures _ (sym c.is_bad.ensures ∙ c.if-is_bad.true)
+    ∙ sym c.loop-index.invariant.1
 
 returns_2 : tie.Need-returns-then-edit-size invariant-loop decreases-loop
 returns_2 c =
-    let t = c in
-    let l = t in
-    bad_past _ _ l.loop-index-test.true t.edit_at-edit.ensures _ (sym t.is_bad.ensures ∙ t.if-is_bad.false) c.if-edit-size.true
-    ∙ sym l.loop-index.invariant.1
+    bad_past _ _ c.loop-index-test.true c.edit_at-edit.ensures _ (sym c.is_bad.ensures ∙ c.if-is_bad.false) c.if-edit-size.true
+    ∙ sym c.loop-index.invariant.1
 
 loop-again : tie.Need-loop-index-preserved invariant-loop decreases-loop
-loop-again c =
-    let t = c in
-    let l = t in (
-      search rules,
-      l.loop-index.invariant.1
-          ∙ bad_on _ _ l.loop-index-test.true t.edit_at-edit.ensures _ (sym t.is_bad.ensures ∙ t.if-is_bad.false) c.if-edit-size.false,
-    )
+loop-again c = (
+  search rules,
+  c.loop-index.invariant.1
+      ∙ bad_on _ _ c.loop-index-test.true c.edit_at-edit.ensures _ (sym c.is_bad.ensures ∙ c.if-is_bad.false) c.if-edit-size.false,
+)
 
 returns-3 : tie.Need-returns invariant-loop decreases-loop
 returns-3 c = sym (c.loop-index.invariant.1 ∙ ap (some_bad _) (rest_end _ _ c.loop-index-test.false))

@@ -16,20 +16,17 @@ returns c none = ap fault_of c.fault.ensures ∙ list_ragged _ _ _ c.if-numbers-
 
 returns_2 : tie.Need-returns-then-some_bad
 returns_2 c none =
-    let t = c in
-    ap fault_of c.fault-then-some_bad.ensures ∙ list_bad _ _ _ t.if-numbers-ne0.false (sym t.some_bad.ensures ∙ c.if-some_bad.true)
+    ap fault_of c.fault-then-some_bad.ensures ∙ list_bad _ _ _ c.if-numbers-ne0.false (sym c.some_bad.ensures ∙ c.if-some_bad.true)
 
 returns-3 : tie.Need-returns-then-lengths_differ
 returns-3 c none =
-    let t = c in
     ap fault_of c.fault-then-lengths_differ.ensures
-    ∙ list_uneven _ _ _ t.if-numbers-ne0.false (none_bad t.before.before.before) (sym t.lengths_differ.ensures ∙ c.if-lengths_differ.true)
+    ∙ list_uneven _ _ _ c.if-numbers-ne0.false (none_bad c.before.before.before) (sym c.lengths_differ.ensures ∙ c.if-lengths_differ.true)
 
 returns-4 : tie.Need-returns
 returns-4 c none =
-    let t = c in
     ap fault_of c.fault-2.ensures
-    ∙ list_overlap _ _ _ t.if-numbers-ne0.false (none_bad t.before.before.before) (sym t.lengths_differ.ensures ∙ c.if-lengths_differ.false) none
+    ∙ list_overlap _ _ _ c.if-numbers-ne0.false (none_bad c.before.before.before) (sym c.lengths_differ.ensures ∙ c.if-lengths_differ.false) none
 
 pub why_spec : {M : Type 1} → statement M
 why_spec =

@@ -10,14 +10,12 @@ use Rattle.look.proofs.list.byte_of_message.Tie as tie
 
 byte-of-checked-requires : tie.Need-byte_of_checked-requires
 byte-of-checked-requires c κs =
-    let k = c in
-    let m = taken sysex8 _ _ (sym k.check-checked.ensures ∙ ap check_meaning8 k.in-Message.is) in
+    let m = taken sysex8 _ _ (sym c.check-checked.ensures ∙ ap check_meaning8 c.in-Message.is) in
     record { passes = m.passes; sized = m.sized }
 
 returns : tie.Need-returns-in-Refused
 returns c =
-    let k = c in
-    message_refused _ _ _ _ _ (not_taken sysex8 _ _ (sym k.check-checked.ensures ∙ ap check_meaning8 k.in-Refused.is))
+    message_refused _ _ _ _ _ (not_taken sysex8 _ _ (sym c.check-checked.ensures ∙ ap check_meaning8 c.in-Refused.is))
 
 pub byte_of_message_spec : {M : Type 1} → statement M
 byte_of_message_spec =

@@ -20,72 +20,49 @@ decreases-loop store at index place₀ left₀ place left = length store - place
 
 add-result : tie.Need-overflow_add-result invariant-loop decreases-loop
 add-result c =
-    let t = c in
-    let l = t in
-    let s = l in
-    let here = test_is is_data t.is_data.ensures t.byte.ensures t.loop-size-test.true in
-    omega (arith, data_inside s.args.store.now l.loop-size.place here)
+    let here = test_is is_data c.is_data.ensures c.byte.ensures c.loop-size-test.true in
+    omega (arith, data_inside c.args.store.now c.loop-size.place here)
 
 add-result-2 : tie.Need-overflow_add-result-then-left-size invariant-loop decreases-loop
 add-result-2 c =
-    let t = c in
-    let l = t in
-    let s = l in
-    let here = test_is is_data t.is_data.ensures t.byte.ensures t.loop-size-test.true in
-    let h = data_inside s.args.store.now l.loop-size.place here in
+    let here = test_is is_data c.is_data.ensures c.byte.ensures c.loop-size-test.true in
+    let h = data_inside c.args.store.now c.loop-size.place here in
     omega (arith, c.body_here-size.ensures.inside h)
 
 shared-slice-read-result : tie.Need-bounds-store-place invariant-loop decreases-loop
 shared-slice-read-result c =
-    let b = c in
-    let t = b in
-    let l = t in
-    let s = l in
-    let here = test_is is_data t.is_data.ensures t.byte.ensures t.loop-size-test.true in
-    let h = data_inside s.args.store.now l.loop-size.place here in
-    omega (arith, b.body_here-size.ensures.inside h)
+    let here = test_is is_data c.is_data.ensures c.byte.ensures c.loop-size-test.true in
+    let h = data_inside c.args.store.now c.loop-size.place here in
+    omega (arith, c.body_here-size.ensures.inside h)
 
 returns : tie.Need-returns-then-left-size invariant-loop decreases-loop
 returns c =
-    let b = c in
-    let t = b in
-    let l = t in
-    let s = l in
-    let here = test_is is_data t.is_data.ensures t.byte.ensures t.loop-size-test.true in
-    let h = data_inside s.args.store.now l.loop-size.place here in
+    let here = test_is is_data c.is_data.ensures c.byte.ensures c.loop-size-test.true in
+    let h = data_inside c.args.store.now c.loop-size.place here in
     sym
-    (data_here s.args.store.now l.loop-size.place here _ b.body_here-size.ensures.body (b.body_here-size.ensures.inside h) l.loop-size.left
+    (data_here c.args.store.now c.loop-size.place here _ c.body_here-size.ensures.body (c.body_here-size.ensures.inside h) c.loop-size.left
     c.if-left-size.true)
-    ∙ l.loop-size.invariant
+    ∙ c.loop-size.invariant
 
 loop-less : tie.Need-loop-size-smaller invariant-loop decreases-loop
 loop-less c =
-    let t = c in
-    let l = t in
-    let s = l in
-    let here = test_is is_data t.is_data.ensures t.byte.ensures t.loop-size-test.true in
-    let h = data_inside s.args.store.now l.loop-size.place here in
+    let here = test_is is_data c.is_data.ensures c.byte.ensures c.loop-size-test.true in
+    let h = data_inside c.args.store.now c.loop-size.place here in
     omega (arith, h, (c.next-place.ensures.on h).0)
 
 loop-again : tie.Need-loop-size-preserved invariant-loop decreases-loop
 loop-again c =
-    let b = c in
-    let t = b in
-    let l = t in
-    let s = l in
-    let here = test_is is_data t.is_data.ensures t.byte.ensures t.loop-size-test.true in
-    let h = data_inside s.args.store.now l.loop-size.place here in
+    let here = test_is is_data c.is_data.ensures c.byte.ensures c.loop-size-test.true in
+    let h = data_inside c.args.store.now c.loop-size.place here in
     sym
-    (data_later s.args.store.now l.loop-size.place here _ b.body_here-size.ensures.body (b.body_here-size.ensures.inside h) l.loop-size.left
+    (data_later c.args.store.now c.loop-size.place here _ c.body_here-size.ensures.body (c.body_here-size.ensures.inside h) c.loop-size.left
     c.if-left-size.false (c.next-place.ensures.is h))
-    ∙ l.loop-size.invariant
+    ∙ c.loop-size.invariant
 
 returns_2 : tie.Need-returns invariant-loop decreases-loop
 returns_2 c =
-    let l = c in
-    let s = l in
     let stop = test_is is_data c.is_data.ensures c.byte.ensures c.loop-size-test.false in
-    sym (ap (λ (d : List ℕ). get_or d l.loop-size.left 0) (data_stop s.args.store.now l.loop-size.place stop)) ∙ l.loop-size.invariant
+    sym (ap (λ (d : List ℕ). get_or d c.loop-size.left 0) (data_stop c.args.store.now c.loop-size.place stop)) ∙ c.loop-size.invariant
 
 pub data_byte_spec : {M : Type 1} → statement M
 data_byte_spec =

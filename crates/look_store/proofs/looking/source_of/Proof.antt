@@ -18,88 +18,54 @@ decreases-loop store at position place₀ end₀ left₀ place end left = length
 
 loop-holds : tie.Need-loop-gap-init invariant-loop decreases-loop
 loop-holds c =
-    let s = c in
-    passing_start s.args.store.now s.args.at s.args.position s.requires.1 c.skip_data-place.ensures
+    passing_start c.args.store.now c.args.at c.args.position c.requires.1 c.skip_data-place.ensures
 
 add-number-at : tie.Need-overflow_add-place invariant-loop decreases-loop
 add-number-at c =
-    let l = c in
-    let s = l in
     let e = test_is is_edit c.is_edit.ensures c.byte.ensures c.loop-gap-test.true in
-    omega (arith, edit_inside s.args.store.now l.loop-gap.place e)
+    omega (arith, edit_inside c.args.store.now c.loop-gap.place e)
 
 sub-gap : tie.Need-overflow_sub-gap invariant-loop decreases-loop
 sub-gap c =
-    let t = c in
-    let l = t in
-    let e = test_is is_edit t.is_edit.ensures t.byte.ensures t.loop-gap-test.true in
-    omega (arith, edit_early l.loop-gap.invariant e, c.number_at.ensures.0)
+    let e = test_is is_edit c.is_edit.ensures c.byte.ensures c.loop-gap-test.true in
+    omega (arith, edit_early c.loop-gap.invariant e, c.number_at.ensures.0)
 
 returns : tie.Need-returns-then-left-gap invariant-loop decreases-loop
 returns c =
-    let n = c in
-    let t = n in
-    let l = t in
-    let e = test_is is_edit t.is_edit.ensures t.byte.ensures t.loop-gap-test.true in
-    from-base (passing_gap l.loop-gap.invariant e n.number_at.ensures.0 c.if-left-gap.true)
+    let e = test_is is_edit c.is_edit.ensures c.byte.ensures c.loop-gap-test.true in
+    from-base (passing_gap c.loop-gap.invariant e c.number_at.ensures.0 c.if-left-gap.true)
 
 returns_2 : tie.Need-returns-then-index-size invariant-loop decreases-loop
 returns_2 c =
-    let y = c in
-    let m = y in
-    let x = m in
-    let o = x in
-    let n = o in
-    let t = n in
-    let l = t in
-    let s = l in
-    let e = test_is is_edit t.is_edit.ensures t.byte.ensures t.loop-gap-test.true in
-    let h = edit_inside s.args.store.now l.loop-gap.place e in
-    let r : DataSized _ _ _ = rw (x.next-data.ensures.is h) at m.measure_data-reached.ensures in
+    let e = test_is is_edit c.is_edit.ensures c.byte.ensures c.loop-gap-test.true in
+    let h = edit_inside c.args.store.now c.loop-gap.place e in
+    let r : DataSized _ _ _ = rw (c.next-data.ensures.is h) at c.measure_data-reached.ensures in
     from_edit
-    (passing_data l.loop-gap.invariant e n.number_at.ensures.0 o.if-left-gap.false (x.next-data.ensures.is h) (omega (arith, y.if-index-size.true, r.size))
+    (passing_data c.loop-gap.invariant e c.number_at.ensures.0 c.if-left-gap.false (c.next-data.ensures.is h) (omega (arith, c.if-index-size.true, r.size))
     c.data_byte.ensures)
 
 add-number-at-2 : tie.Need-overflow_add-place-in-loop-gap invariant-loop decreases-loop
 add-number-at-2 c =
-    let m = c in
-    let t = m in
-    let l = t in
-    let s = l in
-    let e = test_is is_edit t.is_edit.ensures t.byte.ensures t.loop-gap-test.true in
-    omega (arith, edit_inside s.args.store.now l.loop-gap.place e)
+    let e = test_is is_edit c.is_edit.ensures c.byte.ensures c.loop-gap-test.true in
+    omega (arith, edit_inside c.args.store.now c.loop-gap.place e)
 
 loop-less : tie.Need-loop-gap-smaller invariant-loop decreases-loop
 loop-less c =
-    let m = c in
-    let x = m in
-    let t = x in
-    let l = t in
-    let s = l in
-    let e = test_is is_edit t.is_edit.ensures t.byte.ensures t.loop-gap-test.true in
-    let h = edit_inside s.args.store.now l.loop-gap.place e in
-    let r : DataSized _ _ _ = rw (x.next-data.ensures.is h) at m.measure_data-reached.ensures in
+    let e = test_is is_edit c.is_edit.ensures c.byte.ensures c.loop-gap-test.true in
+    let h = edit_inside c.args.store.now c.loop-gap.place e in
+    let r : DataSized _ _ _ = rw (c.next-data.ensures.is h) at c.measure_data-reached.ensures in
     omega (arith, h, r.fewer)
 
 loop-again : tie.Need-loop-gap-preserved invariant-loop decreases-loop
 loop-again c =
-    let y = c in
-    let m = y in
-    let x = m in
-    let o = x in
-    let n = o in
-    let t = n in
-    let l = t in
-    let s = l in
-    let e = test_is is_edit t.is_edit.ensures t.byte.ensures t.loop-gap-test.true in
-    let h = edit_inside s.args.store.now l.loop-gap.place e in
-    let r : DataSized _ _ _ = rw (x.next-data.ensures.is h) at m.measure_data-reached.ensures in
-    passing_more l.loop-gap.invariant e n.number_at.ensures.0 o.if-left-gap.false r y.if-index-size.false c.number_at-end.ensures.0 c.number_at-end.ensures.1
+    let e = test_is is_edit c.is_edit.ensures c.byte.ensures c.loop-gap-test.true in
+    let h = edit_inside c.args.store.now c.loop-gap.place e in
+    let r : DataSized _ _ _ = rw (c.next-data.ensures.is h) at c.measure_data-reached.ensures in
+    passing_more c.loop-gap.invariant e c.number_at.ensures.0 c.if-left-gap.false r c.if-index-size.false c.number_at-end.ensures.0 c.number_at-end.ensures.1
 
 returns-3 : tie.Need-returns invariant-loop decreases-loop
 returns-3 c =
-    let l = c in
-    from-base (passing_end l.loop-gap.invariant (test_is is_edit c.is_edit.ensures c.byte.ensures c.loop-gap-test.false))
+    from-base (passing_end c.loop-gap.invariant (test_is is_edit c.is_edit.ensures c.byte.ensures c.loop-gap-test.false))
 
 pub source_of_spec : {M : Type 1} → statement M
 source_of_spec =
@@ -114,7 +80,7 @@ source_of_spec =
     add-number-at
     (λ c κs. search rules)
     sub-gap
-    (λ c. let l = c in omega (arith, l.loop-gap.invariant.low, l.loop-gap.invariant.fewer, l.requires.0))
+    (λ c. omega (arith, c.loop-gap.invariant.low, c.loop-gap.invariant.fewer, c.requires.0))
     returns
     (λ c κs. search rules)
     (λ c κs. search rules)
@@ -124,5 +90,5 @@ source_of_spec =
     (λ c κs. search rules)
     loop-less
     loop-again
-    (λ c. let l = c in omega (arith, l.loop-gap.invariant.low, l.loop-gap.invariant.fewer, l.requires.0))
+    (λ c. omega (arith, c.loop-gap.invariant.low, c.loop-gap.invariant.fewer, c.requires.0))
     returns-3)

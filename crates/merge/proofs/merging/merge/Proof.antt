@@ -70,19 +70,16 @@ here c = at-loop c (start_of c).requires.source (start_of c).requires.merges
 
 move-up-requires : tie.Need-move_up-requires invariant-loop decreases-loop
 move-up-requires c κs =
-    let b = c in
-    let a = (asks b.before.before).up in
-    (a.0, (a.1.0, (a.1.1, (to_start b.before.before).requires.merges.free)))
+    let a = (asks c.before.before).up in
+    (a.0, (a.1.0, (a.1.1, (to_start c.before.before).requires.merges.free)))
 
 packet-of-requires : tie.Need-packet_of-hand-requires invariant-loop decreases-loop
 packet-of-requires c κs =
-    let b = c in
-    rw c.move_up.ensures.long (asks b.before.before.before.before.before).hand
+    rw c.move_up.ensures.long (asks c.before.before.before.before.before).hand
 
 step-of-requires : tie.Need-step_of-step-requires invariant-loop decreases-loop
 step-of-requires c κs =
-    let l = c in
-    let a = edit_asks (here l.before) c.loop-index-test.true in
+    let a = edit_asks (here c.before) c.loop-index-test.true in
     (c.loop-index-test.true, (a.0, (a.1.0, a.1.1)))
 
 -- what is known of the edit
@@ -95,23 +92,20 @@ small c = size_number _ _ _ _ (omega arith) (here c).top (here c).small
 
 next-of-requires : tie.Need-next_of-coming-requires invariant-loop decreases-loop
 next-of-requires c κs =
-    let e = c in
-    let p = here e.before.before.before.before in
-    (p.in_hand, rw p.flows.long (next_number _ _ _ _ (of-edit e.before.before).read p.top p.small))
+    let p = here c.before.before.before.before in
+    (p.in_hand, rw p.flows.long (next_number _ _ _ _ (of-edit c.before.before).read p.top p.small))
 
 keep-requires : tie.Need-keep-flow-requires invariant-loop decreases-loop
 keep-requires c κs =
-    let e = c in
-    (omega arith, edit_keeps (here e.before.before.before.before.before.before) e.loop-index-test.true e.step_of-step.result e.step_of-step.ensures)
+    (omega arith, edit_keeps (here c.before.before.before.before.before.before) c.loop-index-test.true c.step_of-step.result c.step_of-step.ensures)
 
 abbrev edit-of : tie.After-keep-flow invariant-loop decreases-loop → tie.After-step_of-step invariant-loop decreases-loop
 edit-of k = k.before.before.before.before.before
 
 give-requires : tie.Need-give-flow-requires invariant-loop decreases-loop
 give-requires c κs =
-    let k = c in
-    let e = edit-of k.before.before.before.before in
-    (omega arith, ((of-edit e).put, edit_gives (here e.before.before) e.loop-index-test.true e.step_of-step.result e.step_of-step.ensures k.keep-flow.ensures))
+    let e = edit-of c.before.before.before.before in
+    (omega arith, ((of-edit e).put, edit_gives (here e.before.before) e.loop-index-test.true e.step_of-step.result e.step_of-step.ensures c.keep-flow.ensures))
 
 -- where all of an edit is done
 abbrev keep-of : tie.After-slice_known-in-loop-index-2-1 invariant-loop decreases-loop → tie.After-keep-flow invariant-loop decreases-loop
@@ -128,28 +122,24 @@ numbered c =
 
 loop-again : tie.Need-loop-index-preserved invariant-loop decreases-loop
 loop-again c =
-    let a = c in
-    let k = keep-of a.before.before in
+    let k = keep-of c.before.before in
     let e = edit-of k in
-    let l = e in
     let n = k.next_of-coming in (
       omega (arith, e.loop-index-test.true),
       λ source p.
-          edit_next (l.loop-index.invariant.1 source p) e.loop-index-test.true e.step_of-step.result e.step_of-step.ensures k.keep-flow.ensures n.result a.give-flow.ensures n.ensures.0 n.ensures.1,
+          edit_next (e.loop-index.invariant.1 source p) e.loop-index-test.true e.step_of-step.result e.step_of-step.ensures k.keep-flow.ensures n.result c.give-flow.ensures n.ensures.0 n.ensures.1,
     )
 
 -- behind the last edit
 keep-requires-2 : tie.Need-keep-flow-requires-2 invariant-loop decreases-loop
-keep-requires-2 c κs = let l = c in end_keeps (here l.before.before) (omega (arith, l.loop-index-test.false))
+keep-requires-2 c κs = end_keeps (here c.before.before) (omega (arith, c.loop-index-test.false))
 
 flush-requires : tie.Need-flush-requires invariant-loop decreases-loop
 flush-requires c κs =
-    let k = c in
-    let l = k in
-    let p = here l.before.before.before.before.before.before in
-    let needed = (to-begin l.before.before.before.before.before.before.before).sysex8_packets-needed.ensures in
-    let long = k.keep-flow-2.ensures.long ∙ p.flows.long in
-    (omega (arith, needed, p.room, p.small), (omega (arith, needed, p.room, long), (k.keep-flow-2.ensures.fits, p.free)))
+    let p = here c.before.before.before.before.before.before in
+    let needed = (to-begin c.before.before.before.before.before.before.before).sysex8_packets-needed.ensures in
+    let long = c.keep-flow-2.ensures.long ∙ p.flows.long in
+    (omega (arith, needed, p.room, p.small), (omega (arith, needed, p.room, long), (c.keep-flow-2.ensures.fits, p.free)))
 
 abbrev loop-of : tie.After-slice_known-4-1 invariant-loop decreases-loop → tie.After-loop-index invariant-loop decreases-loop
 loop-of c = c.before.before.before.before.before.before.before.before
@@ -176,8 +166,8 @@ merge_spec =
     packet-of-requires
     (λ c. (omega arith, λ source p. p))
     step-of-requires
-    (λ c. let e = c in omega (arith, (of-edit e.before).read, small e.before.before.before))
-    (λ c. let e = c in omega (arith, (of-edit e.before.before).read, small e.before.before.before.before))
+    (λ c. omega (arith, (of-edit c.before).read, small c.before.before.before))
+    (λ c. omega (arith, (of-edit c.before.before).read, small c.before.before.before.before))
     next-of-requires
     keep-requires
     (λ c. let e = edit-of c.before.before.before.before in omega (arith, (of-edit e).put, (start_of e.before.before).well_formed))

@@ -15,9 +15,8 @@ returns c =
 add-t19 : tie.Need-overflow_add-result
 unfolding step_of
 add-t19 c =
-    let st = c in
     let due = c.is_due in
-    omega (arith, rw (sym due.ensures ∙ c.if-is_due.false, c.if-shrunk.true) at st.requires.1.1.1)
+    omega (arith, rw (sym due.ensures ∙ c.if-is_due.false, c.if-shrunk.true) at c.requires.1.1.1)
 
 returns_2 : tie.Need-returns-then-shrunk
 unfolding step_of
@@ -28,9 +27,8 @@ returns_2 c =
 add-t11 : tie.Need-overflow_add-result-2
 unfolding step_of
 add-t11 c =
-    let st = c in
     let due = c.is_due in
-    omega (arith, rw (sym due.ensures ∙ c.if-is_due.false, c.if-shrunk.false) at st.requires.1.1.1)
+    omega (arith, rw (sym due.ensures ∙ c.if-is_due.false, c.if-shrunk.false) at c.requires.1.1.1)
 
 returns-3 : tie.Need-returns
 unfolding step_of

@@ -11,48 +11,42 @@ use Rattle.merge.proofs.pending.append.Tie as tie
 
 add-high : tie.Need-overflow_add-high
 add-high c =
-    let st = c in
-    omega (arith, c.later-moved.ensures.1, st.requires.1.1.padded.fits)
+    omega (arith, c.later-moved.ensures.1, c.requires.1.1.padded.fits)
 
 add_low : tie.Need-overflow_add-low
 add_low c =
-    let st = c in
     let moved = c.later-moved in
-    omega (arith, (sums st.args.pending st.args.piece moved.result st.requires.1.1.padded st.requires.1.0 (omega arith) (omega arith) (omega arith) moved.ensures.0).0)
+    omega (arith, (sums c.args.pending c.args.piece moved.result c.requires.1.1.padded c.requires.1.0 (omega arith) (omega arith) (omega arith) moved.ensures.0).0)
 
 returns : tie.Need-returns-then-count-some-lt13
 returns c =
-    let st = c in
     let moved = c.later-moved in
-    let s = sums st.args.pending st.args.piece moved.result st.requires.1.1.padded st.requires.1.0 (omega arith) (omega arith) (omega arith) moved.ensures.0 in
+    let s = sums c.args.pending c.args.piece moved.result c.requires.1.1.padded c.requires.1.0 (omega arith) (omega arith) (omega arith) moved.ensures.0 in
     record { appended = record { fewer = λ l. (refl, (s.1.1, (refl, refl))); enough = λ l. absurd (omega arith) }; small = s.1.0 }
 
 store-requires : tie.Need-store-requires
 store-requires c κs =
-    let st = c in
     let moved = c.later-moved in
-    let r = st.requires.1.1 in
-    (omega (arith, r.fits, r.small), (omega (arith, r.fits), ((sums st.args.pending st.args.piece moved.result r.padded st.requires.1.0 (omega arith) (omega arith) (omega arith) moved.ensures.0).1.0, r.free)))
+    let r = c.requires.1.1 in
+    (omega (arith, r.fits, r.small), (omega (arith, r.fits), ((sums c.args.pending c.args.piece moved.result r.padded c.requires.1.0 (omega arith) (omega arith) (omega arith) moved.ensures.0).1.0, r.free)))
 
 returns_2 : tie.Need-returns-then-count-eq0
 returns_2 c =
-    let st = c in
     let moved = c.later-moved in
-    let z : st.args.pending.count ≡ 0 = c.if-count-eq0.true in
-    let s = sums st.args.pending st.args.piece moved.result st.requires.1.1.padded st.requires.1.0 (omega arith) (omega arith) (omega arith) moved.ensures.0 in
+    let z : c.args.pending.count ≡ 0 = c.if-count-eq0.true in
+    let s = sums c.args.pending c.args.piece moved.result c.requires.1.1.padded c.requires.1.0 (omega arith) (omega arith) (omega arith) moved.ensures.0 in
     record {
       appended = record {
         fewer = λ l. absurd (omega arith);
-        enough = λ l. (rw s.1.1 at c.store.ensures, (rw z (sym (mul-mod_left (number st.args.piece) (2 ^ 104))), (omega arith, refl)));
+        enough = λ l. (rw s.1.1 at c.store.ensures, (rw z (sym (mul-mod_left (number c.args.piece) (2 ^ 104))), (omega arith, refl)));
       };
       small = omega arith;
     }
 
 returns-3 : tie.Need-returns
 returns-3 c =
-    let st = c in
     let moved = c.later-moved in
-    let s = sums st.args.pending st.args.piece moved.result st.requires.1.1.padded st.requires.1.0 (omega arith) (omega arith) (omega arith) moved.ensures.0 in
+    let s = sums c.args.pending c.args.piece moved.result c.requires.1.1.padded c.requires.1.0 (omega arith) (omega arith) (omega arith) moved.ensures.0 in
     record {
       appended = record {
         fewer = λ l. absurd (omega arith);

@@ -19,33 +19,25 @@ piece at to s h e = (omega arith, (omega arith, omega arith))
 
 loop-holds : tie.Need-loop-at-init invariant-loop decreases-loop
 loop-holds c =
-    let d = c in
-    let x = d.args in
-    (omega arith, (d.requires.0, gave_none x.pending x.from x.bytes.now x.words.now x.head d.requires.1.1.fits))
+    let x = c.args in
+    (omega arith, (c.requires.0, gave_none x.pending x.from x.bytes.now x.words.now x.head c.requires.1.1.fits))
 
 piece-of-requires : tie.Need-piece_of-piece-requires invariant-loop decreases-loop
 piece-of-requires c κs =
-    let l = c in
-    let d = l in
-    let n = piece l.loop-at.at d.args.to _ l.loop-at-test.true c.least-some.ensures in
-    (n.0, omega (arith, n.1.0, d.requires.1.0))
+    let n = piece c.loop-at.at c.args.to _ c.loop-at-test.true c.least-some.ensures in
+    (n.0, omega (arith, n.1.0, c.requires.1.0))
 
 append-requires : tie.Need-append-flow-requires invariant-loop decreases-loop
 append-requires c κs =
-    let l = c in
-    let d = l in
-    let i = l.loop-at.invariant in
-    let n = piece l.loop-at.at d.args.to _ l.loop-at-test.true c.least-some.ensures in
-    (n.0, (c.piece_of-piece.ensures.1, gave_ready d.args.from d.args.bytes.now i.1.1 i.0 d.args.to _ d.requires.1.1 n.1.0))
+    let i = c.loop-at.invariant in
+    let n = piece c.loop-at.at c.args.to _ c.loop-at-test.true c.least-some.ensures in
+    (n.0, (c.piece_of-piece.ensures.1, gave_ready c.args.from c.args.bytes.now i.1.1 i.0 c.args.to _ c.requires.1.1 n.1.0))
 
 loop-again : tie.Need-loop-at-preserved invariant-loop decreases-loop
 loop-again c =
-    let p = c in
-    let l = p in
-    let d = l in
-    let i = l.loop-at.invariant in
-    let n = piece l.loop-at.at d.args.to _ l.loop-at-test.true p.least-some.ensures in
-    (omega (arith, i.0), (n.1.0, gave_more d.args.from d.args.bytes.now i.1.1 i.0 _ _ n.0 p.piece_of-piece.ensures.0 c.append-flow.ensures))
+    let i = c.loop-at.invariant in
+    let n = piece c.loop-at.at c.args.to _ c.loop-at-test.true c.least-some.ensures in
+    (omega (arith, i.0), (n.1.0, gave_more c.args.from c.args.bytes.now i.1.1 i.0 _ _ n.0 c.piece_of-piece.ensures.0 c.append-flow.ensures))
 
 returns : tie.Need-returns invariant-loop decreases-loop
 returns c =
@@ -65,8 +57,8 @@ give_spec =
     (λ c κs. search rules)
     piece-of-requires
     append-requires
-    (λ c. let p = c in let l = p in let d = l in omega (arith, (piece l.loop-at.at d.args.to _ l.loop-at-test.true p.least-some.ensures).1.0))
-    (λ c. let p = c in let l = p in let d = l in omega (arith, piece l.loop-at.at d.args.to _ l.loop-at-test.true p.least-some.ensures))
+    (λ c. omega (arith, (piece c.loop-at.at c.args.to _ c.loop-at-test.true c.least-some.ensures).1.0))
+    (λ c. omega (arith, piece c.loop-at.at c.args.to _ c.loop-at-test.true c.least-some.ensures))
     loop-again
     (λ c. c.loop-at.invariant.1.1.long)
     returns)

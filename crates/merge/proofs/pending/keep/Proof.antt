@@ -33,56 +33,48 @@ at-over o = let m = most-of o in let l = least-of m in parted (start l).args.at 
 
 append-requires : tie.Need-append-flow-requires
 append-requires c κs =
-    let l = c in
-    let n = at_first l.before.before in
-    (omega (arith, n.few.1.0), (c.middle-piece.ensures.1, keep_first n (start l.before.before).requires.1.1))
+    let n = at_first c.before.before in
+    (omega (arith, n.few.1.0), (c.middle-piece.ensures.1, keep_first n (start c.before.before).requires.1.1))
 
 run-requires : tie.Need-run-flow-requires
 run-requires c κs =
-    let m = c in
-    let l = least-of m.before in
-    let n = at_most m.before in
-    let a = m.append-flow.ensures in
-    (n.whole, (omega (arith, (appends_goes a (omega (arith, n.few.1.0))).long, n.top, (start l).requires.1.0), keep_run n (start l).requires.1.1 _ m.middle-piece.ensures.0 (start l).requires.0 a))
+    let l = least-of c.before in
+    let n = at_most c.before in
+    let a = c.append-flow.ensures in
+    (n.whole, (omega (arith, (appends_goes a (omega (arith, n.few.1.0))).long, n.top, (start l).requires.1.0), keep_run n (start l).requires.1.1 _ c.middle-piece.ensures.0 (start l).requires.0 a))
 
 front-of-requires : tie.Need-front_of-tail-requires
 front-of-requires c κs =
-    let o = c in
-    let m = most-of o in
+    let m = most-of c in
     let l = least-of m in
-    let n = at-over o in
-    let long = o.run-flow.ensures.long ∙ (appends_goes m.append-flow.ensures (omega (arith, n.few.1.0))).long in
+    let n = at-over c in
+    let long = c.run-flow.ensures.long ∙ (appends_goes m.append-flow.ensures (omega (arith, n.few.1.0))).long in
     (n.tail, (omega (arith, n.top, (start l).requires.1.0, (start l).requires.1.1.small), λ h. omega (arith, long, (n.reach h).1, (start l).requires.1.0)))
 
 append-requires-2 : tie.Need-append-requires
 append-requires-2 c κs =
-    let o = c in
-    let m = most-of o.before.before in
+    let m = most-of c.before.before in
     let l = least-of m in
-    let n = at-over o.before.before in
-    (omega (arith, n.tail), (c.front_of-tail.ensures.1, keep_last n (start l).requires.1.1 _ m.middle-piece.ensures.0 (start l).requires.0 m.append-flow.ensures o.run-flow.ensures))
+    let n = at-over c.before.before in
+    (omega (arith, n.tail), (c.front_of-tail.ensures.1, keep_last n (start l).requires.1.1 _ m.middle-piece.ensures.0 (start l).requires.0 m.append-flow.ensures c.run-flow.ensures))
 
 returns-3 : tie.Need-returns
 returns-3 c =
-    let o = c in
-    let m = most-of o.before.before.before.before.before in
+    let m = most-of c.before.before.before.before.before in
     let l = least-of m in
-    keep_goes (at-over o.before.before.before.before.before) (start l).requires.0 _ m.middle-piece.ensures.0 m.append-flow.ensures o.run-flow.ensures
+    keep_goes (at-over c.before.before.before.before.before) (start l).requires.0 _ m.middle-piece.ensures.0 m.append-flow.ensures c.run-flow.ensures
     _ c.front_of-tail.ensures.0 c.append.ensures
 
 -- nothing is kept
 returns : tie.Need-returns-then-at-to
 returns c =
-    let st = c in
-    let z : st.args.to - st.args.at ≡ 0 = omega (arith, c.if-at-to.true) in
-    rw z (goes_none st.requires.1.1.fits)
+    let z : c.args.to - c.args.at ≡ 0 = omega (arith, c.if-at-to.true) in
+    rw z (goes_none c.requires.1.1.fits)
 
 -- all of it stands in one packet
 returns_2 : tie.Need-returns-then-to-first
 returns_2 c =
-    let a = c in
-    let l = a in
-    keep_short (at_first l.before.before.before.before.before.before) (start l.before.before.before.before.before.before).requires.0 c.if-to-first.true _ a.middle-piece.ensures.0 a.append-flow.ensures
+    keep_short (at_first c.before.before.before.before.before.before) (start c.before.before.before.before.before.before).requires.0 c.if-to-first.true _ c.middle-piece.ensures.0 c.append-flow.ensures
 
 pub keep_spec : {M : Type 1} → statement M
 keep_spec =
@@ -94,15 +86,15 @@ keep_spec =
     (λ c κs. search rules)
     (λ c κs. (at_first c).few)
     append-requires
-    (λ c. let st = c in omega (arith, st.requires.0, st.requires.1.0, st.requires.1.1.small))
-    (λ c. let st = c in omega (arith, st.requires.0, st.requires.1.0, st.requires.1.1.small))
+    (λ c. omega (arith, c.requires.0, c.requires.1.0, c.requires.1.1.small))
+    (λ c. omega (arith, c.requires.0, c.requires.1.0, c.requires.1.1.small))
     (λ c. (returns_2 c).long)
     returns_2
     (λ c κs. search rules)
     run-requires
-    (λ c. let m = c in let st = start (least-of m.before.before.before.before) in omega (arith, (at_most m.before.before.before.before).top, st.requires.1.0, st.requires.1.1.small))
+    (λ c. let st = start (least-of c.before.before.before.before) in omega (arith, (at_most c.before.before.before.before).top, st.requires.1.0, st.requires.1.1.small))
     (λ c κs. search rules)
-    (λ c. let o = c in let st = start (least-of (most-of o)) in omega (arith, (at-over o).top, st.requires.1.0, st.requires.1.1.small))
+    (λ c. let st = start (least-of (most-of c)) in omega (arith, (at-over c).top, st.requires.1.0, st.requires.1.1.small))
     front-of-requires
     append-requires-2
     (λ c. (returns-3 c).long)

@@ -13,8 +13,7 @@ use Rattle.merge.proofs.pending.run.Tie as tie
 -- no byte waits
 nothing-waits : (c : tie.Else-pending-ne0) → let p = c.args.pending in p ≡ none p.packet
 nothing-waits c =
-    let st = c in
-    flows_none st.args.pending st.requires.1.1.flows c.if-pending-ne0.false
+    flows_none c.args.pending c.requires.1.1.flows c.if-pending-ne0.false
 
 -- the packet behind all is one of the words
 next_small : (m n q c : ℕ) {room : ℕ} → m ≡ 13 * q + c → 4 * ((m + 13 * n) / 13) ≤ room → room ≤ most_words → q + n < 65536
@@ -22,26 +21,22 @@ next_small m n q c e h l = omega arith
 
 run-shifted-requires : tie.Need-run_shifted-requires
 run-shifted-requires c κs =
-    let st = c in
-    (st.requires.0, (st.requires.1.0, (omega (arith, c.if-pending-ne0.true), st.requires.1.1)))
+    (c.requires.0, (c.requires.1.0, (omega (arith, c.if-pending-ne0.true), c.requires.1.1)))
 
 run-even-requires : tie.Need-run_even-requires
 run-even-requires c κs =
-    let st = c in
-    let x = st.args in
-    (st.requires.0, (st.requires.1.0, subst (λ (q : Pending). Runs (Kept x.head x.lag (13 * x.first) (13 * x.last) 0 (taken q)) x.words.now x.head q (13 * (x.last - x.first))) (nothing-waits c.before.before) st.requires.1.1))
+    let x = c.args in
+    (c.requires.0, (c.requires.1.0, subst (λ (q : Pending). Runs (Kept x.head x.lag (13 * x.first) (13 * x.last) 0 (taken q)) x.words.now x.head q (13 * (x.last - x.first))) (nothing-waits c.before.before) c.requires.1.1))
 
 returns_2 : tie.Need-returns-then-packet-first
 returns_2 c =
-    let e = c in
-    rw c.nothing.ensures (goes_as (nothing-waits e.before.before.before.before.before.before) c.run_even.ensures)
+    rw c.nothing.ensures (goes_as (nothing-waits c.before.before.before.before.before.before) c.run_even.ensures)
 
 returns-3 : tie.Need-returns
 returns-3 c =
-    let st = c in
-    let x = st.args in
+    let x = c.args in
     let in_place : x.pending.packet ≡ x.first + x.lag = omega (arith, c.if-packet-first.false) in
-    rw c.nothing-2.ensures (ran_there x.head x.lag x.first x.last x.pending x.words.now st.requires.1.1.fits c.if-pending-ne0.false st.requires.0 in_place)
+    rw c.nothing-2.ensures (ran_there x.head x.lag x.first x.last x.pending x.words.now c.requires.1.1.fits c.if-pending-ne0.false c.requires.0 in_place)
 
 pub run_spec : {M : Type 1} → statement M
 run_spec =
@@ -50,14 +45,14 @@ run_spec =
     run-shifted-requires
     (λ c. search rules)
     (λ c. search rules)
-    (λ c. let st = c in omega (arith, st.requires.1.0, st.requires.1.1.small))
+    (λ c. omega (arith, c.requires.1.0, c.requires.1.1.small))
     run-even-requires
     (λ c. search rules)
-    (λ c. let st = c in omega (arith, next_small _ (st.args.last - st.args.first) st.args.pending.packet _ refl st.requires.1.1.room st.requires.1.1.small))
+    (λ c. omega (arith, next_small _ (c.args.last - c.args.first) c.args.pending.packet _ refl c.requires.1.1.room c.requires.1.1.small))
     (λ c κs. search rules)
     (λ c. search rules)
     returns_2
     (λ c. search rules)
-    (λ c. let st = c in omega (arith, next_small _ (st.args.last - st.args.first) st.args.pending.packet _ refl st.requires.1.1.room st.requires.1.1.small))
+    (λ c. omega (arith, next_small _ (c.args.last - c.args.first) c.args.pending.packet _ refl c.requires.1.1.room c.requires.1.1.small))
     (λ c κs. search rules)
     returns-3)

@@ -16,21 +16,18 @@ decreases-loop words₀ head packet first last lag to₀ from₀ words to from =
 
 loop-holds : tie.Need-loop-from-init invariant-loop decreases-loop
 loop-holds c =
-    let d = c in
-    (omega arith, (d.requires.0, (omega arith, ran_none d.args.head d.args.lag d.args.first (none d.args.packet) d.args.words.now (omega arith))))
+    (omega arith, (c.requires.0, (omega arith, ran_none c.args.head c.args.lag c.args.first (none c.args.packet) c.args.words.now (omega arith))))
 
 load-requires : tie.Need-load-bytes-requires invariant-loop decreases-loop
 load-requires c κs =
-    let d = c in
     let l = c.loop-from in
-    (omega (arith, d.requires, d.requires.1.1.small), omega (arith, d.requires, l.invariant.1.1.1.long))
+    (omega (arith, c.requires, c.requires.1.1.small), omega (arith, c.requires, l.invariant.1.1.1.long))
 
 store-requires : tie.Need-store-requires invariant-loop decreases-loop
 store-requires c κs =
-    let d = c in
     let i = c.loop-from.invariant in
-    let s = d.requires.1.1 in
-    let room = ran_room i.1.1.1 i.0 d.args.last s c.loop-from-test.true in
+    let s = c.requires.1.1 in
+    let room = ran_room i.1.1.1 i.0 c.args.last s c.loop-from-test.true in
     (omega (arith, room, i.1.1.1.long, s.small), (room, (c.load-bytes.ensures.1, s.free)))
 
 loop-again : tie.Need-loop-from-preserved invariant-loop decreases-loop
@@ -54,11 +51,11 @@ run_even_spec =
     invariant-loop
     decreases-loop
     loop-holds
-    (λ c. let d = c in omega (arith, d.requires, d.requires.1.1.small, c.loop-from.invariant))
+    (λ c. omega (arith, c.requires, c.requires.1.1.small, c.loop-from.invariant))
     load-requires
     store-requires
-    (λ c. let d = c in omega (arith, d.requires, d.requires.1.1.small))
-    (λ c. let d = c in omega (arith, d.requires, d.requires.1.1.small))
+    (λ c. omega (arith, c.requires, c.requires.1.1.small))
+    (λ c. omega (arith, c.requires, c.requires.1.1.small))
     (λ c. omega (arith, c.loop-from-test.true))
     loop-again
     (λ c. c.loop-from.invariant.1.1.1.long)

@@ -20,51 +20,44 @@ decreases-loop words₀ head first last lag count wait₀ to₀ packet₀ words 
 
 loop-holds : tie.Need-loop-packet-init invariant-loop decreases-loop
 loop-holds c =
-    let d = c in
-    (omega arith, (d.requires.0, ran_none d.args.head d.args.lag d.args.first d.args.pending d.args.words.now d.requires.1.1.1.fits))
+    (omega arith, (c.requires.0, ran_none c.args.head c.args.lag c.args.first c.args.pending c.args.words.now c.requires.1.1.1.fits))
 
 load-requires : tie.Need-load-bytes-requires invariant-loop decreases-loop
 load-requires c κs =
-    let d = c in
     let l = c.loop-packet in
-    (omega (arith, d.requires, d.requires.1.1.1.small), omega (arith, d.requires, l.invariant.1.1.long))
+    (omega (arith, c.requires, c.requires.1.1.1.small), omega (arith, c.requires, l.invariant.1.1.long))
 
 -- what waits where the loop is
 padded : (c : tie.In-loop-packet invariant-loop decreases-loop) → let l = c.loop-packet in
     Padded (record { high = l.wait.high; low = l.wait.low; count = c.args.pending.count; packet = l.to })
 padded c =
-    let d = c in
     let i = c.loop-packet.invariant in
-    ran_padded i.1.1 i.0 d.args.last d.requires.1.1.1 c.loop-packet-test.true
+    ran_padded i.1.1 i.0 c.args.last c.requires.1.1.1 c.loop-packet-test.true
 
 -- and there is room for the packet
 room : (c : tie.In-loop-packet invariant-loop decreases-loop) → (c.loop-packet.to < 4096) × (4 * c.loop-packet.to + 4 ≤ length c.loop-packet.words)
 room c =
-    let d = c in
     let i = c.loop-packet.invariant in
-    let r = ran_room i.1.1 i.0 d.args.last d.requires.1.1.1 c.loop-packet-test.true in
-    (omega (arith, r, i.1.1.long, d.requires.1.1.1.small), r)
+    let r = ran_room i.1.1 i.0 c.args.last c.requires.1.1.1 c.loop-packet-test.true in
+    (omega (arith, r, i.1.1.long, c.requires.1.1.1.small), r)
 
 later-requires : tie.Need-later-moved-requires invariant-loop decreases-loop
 later-requires c κs = ((padded c.before).few, c.load-bytes.ensures.1)
 
 -- what waits and the packet moved behind it
-both : (c : tie.After-struct_known-in-loop-packet-1 invariant-loop decreases-loop) → let a = c in let l = a.loop-packet in let p = a.args.pending in
-    let m = a.later-moved.result in let t = a.load-bytes.result in
+both : (c : tie.After-struct_known-in-loop-packet-1 invariant-loop decreases-loop) → let l = c.loop-packet in let p = c.args.pending in
+    let m = c.later-moved.result in let t = c.load-bytes.result in
     (l.wait.low + m.low < 2 ^ 64)
     × ((l.wait.high + m.high < 2 ^ 40) × ((l.wait.high + m.high) * 2 ^ 64 + (l.wait.low + m.low) ≡ number l.wait + number t / 2 ^ (8 * p.count)))
 both c =
-    let a = c in
-    let l = a.loop-packet in
-    let p = a.args.pending in
-    sums (record { high = l.wait.high; low = l.wait.low; count = p.count; packet = l.to }) a.load-bytes.result a.later-moved.result (padded a.before.before.before.before.before) a.load-bytes.ensures.1
-    (omega arith) c.struct_known-1.given.1.0.fits c.struct_known-in-loop-packet-1.given.1.0.fits a.later-moved.ensures.0
+    let l = c.loop-packet in
+    let p = c.args.pending in
+    sums (record { high = l.wait.high; low = l.wait.low; count = p.count; packet = l.to }) c.load-bytes.result c.later-moved.result (padded c.before.before.before.before.before) c.load-bytes.ensures.1
+    (omega arith) c.struct_known-1.given.1.0.fits c.struct_known-in-loop-packet-1.given.1.0.fits c.later-moved.ensures.0
 
 store-requires : tie.Need-store-requires invariant-loop decreases-loop
 store-requires c κs =
-    let b = c in
-    let l = b in
-    (omega (arith, (room l.before.before.before.before.before.before.before).0), ((room l.before.before.before.before.before.before.before).1, ((both b.before.before).1.0, l.requires.1.1.1.free)))
+    (omega (arith, (room c.before.before.before.before.before.before.before).0), ((room c.before.before.before.before.before.before.before).1, ((both c.before.before).1.0, c.requires.1.1.1.free)))
 
 -- where the packet is written
 abbrev stored : tie.After-slice_known-in-loop-packet-1 invariant-loop decreases-loop → tie.After-struct_known-in-loop-packet-1 invariant-loop decreases-loop
@@ -80,9 +73,8 @@ earlier-requires c κs =
 
 loop-again : tie.Need-loop-packet-preserved invariant-loop decreases-loop
 loop-again c =
-    let e = c in
-    let i = (loop-of e.before).loop-packet.invariant in
-    (omega (arith, i.0), (omega (arith, (loop-of e.before).loop-packet-test.true), ran_more i.1.1 i.0 _ _ _ (stored e.before).load-bytes.ensures.0 (append-full _ _ _ 13 e.store.ensures (both (stored e.before)).1.1 (omega arith) c.earlier-wait.ensures.0 refl refl c.earlier-wait.ensures.1)))
+    let i = (loop-of c.before).loop-packet.invariant in
+    (omega (arith, i.0), (omega (arith, (loop-of c.before).loop-packet-test.true), ran_more i.1.1 i.0 _ _ _ (stored c.before).load-bytes.ensures.0 (append-full _ _ _ 13 c.store.ensures (both (stored c.before)).1.1 (omega arith) c.earlier-wait.ensures.0 refl refl c.earlier-wait.ensures.1)))
 
 returns : tie.Need-returns invariant-loop decreases-loop
 returns c =
@@ -98,7 +90,7 @@ run_shifted_spec =
     invariant-loop
     decreases-loop
     loop-holds
-    (λ c. let d = c in omega (arith, d.requires, d.requires.1.1.1.small, c.loop-packet.invariant))
+    (λ c. omega (arith, c.requires, c.requires.1.1.1.small, c.loop-packet.invariant))
     load-requires
     later-requires
     (λ c. omega (arith, both c))

@@ -14,19 +14,16 @@ use Rattle.merge.proofs.pending.take_packet.Tie as tie
 -- how many bytes the packet carries
 some_is : (c : tie.After-count_of) → let x = c.args in c.count_of.result - 1 ≡ size_at sysex8 x.words.now x.packet
 some_is c =
-    let st = c in
-    ap (λ (n : ℕ). n - 1) c.count_of.ensures ∙ sym (size_of_count sysex8 (count_at sysex8 st.args.words.now st.args.packet) st.requires.1.1)
+    ap (λ (n : ℕ). n - 1) c.count_of.ensures ∙ sym (size_of_count sysex8 (count_at sysex8 c.args.words.now c.args.packet) c.requires.1.1)
 
 few : (c : tie.After-count_of) → (1 ≤ c.count_of.result) × (c.count_of.result ≤ 14)
 few c = omega (arith, c.count_of.ensures, c.requires.1)
 
 returns : tie.Need-returns-then-some-eq0
 returns c =
-    let s = c in
-    let st = s in
-    let x = st.args in
-    let r = st.requires.0.1.1 in
-    rw (sym (some_is s.before) ∙ c.if-some-eq0.true, front_zero _ (body-fits x.words.now x.packet))
+    let x = c.args in
+    let r = c.requires.0.1.1 in
+    rw (sym (some_is c.before) ∙ c.if-some-eq0.true, front_zero _ (body-fits x.words.now x.packet))
     (record {
       appended = record { fewer = λ l. (refl, (rw (zero-div (2 ^ (8 * x.pending.count)), add-zero), (omega arith, refl))); enough = λ l. absurd (omega (arith, r.padded.few)) };
       small = r.padded.fits;
@@ -34,32 +31,21 @@ returns c =
 
 append-requires : tie.Need-append-requires
 append-requires c κs =
-    let l = c in
-    let s = l in
-    let st = s in
-    let r = st.requires.0.1.1 in
-    (omega arith, (l.load-bytes.ensures.1, record { padded = r.padded; fits = omega (arith, st.requires.0, r.padded.few); small = r.small; free = r.free }))
+    let r = c.requires.0.1.1 in
+    (omega arith, (c.load-bytes.ensures.1, record { padded = r.padded; fits = omega (arith, c.requires.0, r.padded.few); small = r.small; free = r.free }))
 
 returns_2 : tie.Need-returns-then-some-eq13
 returns_2 c =
-    let l = c in
-    let s = l in
-    rw (sym (some_is s.before.before.before.before.before.before.before) ∙ c.if-some-eq13.true, ← l.load-bytes.ensures.0, front_all) c.append.ensures
+    rw (sym (some_is c.before.before.before.before.before.before.before) ∙ c.if-some-eq13.true, ← c.load-bytes.ensures.0, front_all) c.append.ensures
 
 append-requires-2 : tie.Need-append-requires-2
 append-requires-2 c κs =
-    let l = c in
-    let s = l in
-    let st = s in
-    let r = st.requires.0.1.1 in
-    (omega (arith, few s.before.before.before.before.before), (c.front.ensures.1, record { padded = r.padded; fits = omega (arith, st.requires.0, r.padded.few, few s.before.before.before.before.before); small = r.small; free = r.free }))
+    let r = c.requires.0.1.1 in
+    (omega (arith, few c.before.before.before.before.before), (c.front.ensures.1, record { padded = r.padded; fits = omega (arith, c.requires.0, r.padded.few, few c.before.before.before.before.before); small = r.small; free = r.free }))
 
 returns-3 : tie.Need-returns
 returns-3 c =
-    let f = c in
-    let l = f in
-    let s = l in
-    rw (← (some_is s.before.before.before.before.before.before.before.before), ← l.load-bytes.ensures.0, ← f.front.ensures.0) c.append-2.ensures
+    rw (← (some_is c.before.before.before.before.before.before.before.before), ← c.load-bytes.ensures.0, ← c.front.ensures.0) c.append-2.ensures
 
 pub take_packet_spec : {M : Type 1} → statement M
 take_packet_spec =
@@ -76,7 +62,7 @@ take_packet_spec =
     append-requires
     (λ c. search rules)
     returns_2
-    (λ c κs. let l = c in (omega (arith, few l.before.before.before.before), l.load-bytes.ensures.1))
+    (λ c κs. (omega (arith, few c.before.before.before.before), c.load-bytes.ensures.1))
     append-requires-2
     (λ c. search rules)
     returns-3)

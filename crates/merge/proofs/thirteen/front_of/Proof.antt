@@ -17,8 +17,7 @@ returns c =
 
 load-requires : tie.Need-load-requires
 load-requires c κs =
-    let st = c in
-    (omega arith, st.requires.1.1 (omega arith))
+    (omega arith, c.requires.1.1 (omega arith))
 
 returns_2 : tie.Need-returns
 returns_2 c =

@@ -12,9 +12,8 @@ use Rattle.merge.proofs.thirteen.middle.Tie as tie
 
 returns : tie.Need-returns-then-byte-eq0
 returns c =
-    let st = c in
-    let x = st.args in
-    let e : x.some ≡ 0 = st.requires.1.1 c.if-byte-eq0.true in
+    let x = c.args in
+    let e : x.some ≡ 0 = c.requires.1.1 c.if-byte-eq0.true in
     (rw e (sym (front_zero (number x.t * 2 ^ (8 * x.byte) % 2 ^ 104) (mod-lt _ (pow_pos 104)))), omega arith)
 
 returns_2 : tie.Need-returns

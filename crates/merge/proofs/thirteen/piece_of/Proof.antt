@@ -11,8 +11,7 @@ use Rattle.merge.proofs.thirteen.piece_of.Tie as tie
 
 few-of-requires : tie.Need-few_of-requires
 few-of-requires c κs =
-    let st = c in
-    (omega arith, (omega (arith, c.if-some-lt5.true), (st.requires.1, (sym (val_nil 13), omega arith))))
+    (omega arith, (omega (arith, c.if-some-lt5.true), (c.requires.1, (sym (val_nil 13), omega arith))))
 
 returns_2 : tie.Need-returns-then-some-eq13
 returns_2 c =
@@ -24,9 +23,8 @@ returns_2 c =
 
 few-of-requires-2 : tie.Need-few_of-requires-2
 few-of-requires-2 c κs =
-    let st = c in
     let five = c.five_of-high.ensures in
-    (omega (arith, c.if-some-lt5.false), (omega (arith, st.requires.0, c.if-some-eq13.false), (st.requires.1, (ap (λ (n : ℕ). n * 2 ^ 64 + 0) five.0 ∙ sym (five_first (drop st.args.at st.args.bytes.now)), five.1))))
+    (omega (arith, c.if-some-lt5.false), (omega (arith, c.requires.0, c.if-some-eq13.false), (c.requires.1, (ap (λ (n : ℕ). n * 2 ^ 64 + 0) five.0 ∙ sym (five_first (drop c.args.at c.args.bytes.now)), five.1))))
 
 pub piece_of_spec : {M : Type 1} → statement M
 piece_of_spec =

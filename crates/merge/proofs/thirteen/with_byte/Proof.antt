@@ -27,17 +27,15 @@ add-t5 c = record { fits = add_fits _ _ c.requires.1.0 c.later-moved.ensures.1 }
 
 add-t6 : tie.Need-overflow_add-result-2
 add-t6 c =
-    let st = c in
-    let x = st.args in
+    let x = c.args in
     let moved = c.later-moved in
-    record { fits = (both x.t moved.result x.index x.byte st.requires.0 st.requires.1.0 st.requires.1.1 c.struct_known-3-1.given.1.0.fits c.struct_known-4-1.given.1.0.fits st.ranges.byte.fits moved.ensures.0).0 }
+    record { fits = (both x.t moved.result x.index x.byte c.requires.0 c.requires.1.0 c.requires.1.1 c.struct_known-3-1.given.1.0.fits c.struct_known-4-1.given.1.0.fits c.ranges.byte.fits moved.ensures.0).0 }
 
 returns : tie.Need-returns
 returns c =
-    let st = c in
-    let x = st.args in
+    let x = c.args in
     let moved = c.later-moved in
-    let s = both x.t moved.result x.index x.byte st.requires.0 st.requires.1.0 st.requires.1.1 c.struct_known-3-1.given.1.0.fits c.struct_known-4-1.given.1.0.fits st.ranges.byte.fits moved.ensures.0 in
+    let s = both x.t moved.result x.index x.byte c.requires.0 c.requires.1.0 c.requires.1.1 c.struct_known-3-1.given.1.0.fits c.struct_known-4-1.given.1.0.fits c.ranges.byte.fits moved.ensures.0 in
     (s.1.1, s.1.0)
 
 pub with_byte_spec : {M : Type 1} → statement M

@@ -19,37 +19,34 @@ invariant-loop words packets bytes₀ packet₀ at₀ bytes packet at =
 abbrev decreases-loop : tie.decreases-loop-packet
 decreases-loop words packets bytes₀ packet₀ at₀ bytes packet at = packets - packet
 
-at-packet : (c : tie.In-loop-packet invariant-loop decreases-loop) → let d = c in
-    Here 4 c.loop-packet.packet d.args.words.now
+at-packet : (c : tie.In-loop-packet invariant-loop decreases-loop) →
+    Here 4 c.loop-packet.packet c.args.words.now
 at-packet c = here c.loop-packet.packet c.requires.inside c.loop-packet-test.true
 
 -- the bytes of the packet
-piece : (c : tie.In-loop-packet invariant-loop decreases-loop) → let d = c in
-    length (payload_at sysex8 d.args.words.now c.loop-packet.packet) ≡ size_at sysex8 d.args.words.now c.loop-packet.packet
+piece : (c : tie.In-loop-packet invariant-loop decreases-loop) →
+    length (payload_at sysex8 c.args.words.now c.loop-packet.packet) ≡ size_at sysex8 c.args.words.now c.loop-packet.packet
 piece c = length-payload_at sysex8 _ _ (at-packet c).there
 
 -- the bytes that are left hold it
-room : (c : tie.In-loop-packet invariant-loop decreases-loop) → let d = c in
-    c.loop-packet.at + size_at sysex8 d.args.words.now c.loop-packet.packet ≤ length c.loop-packet.bytes
+room : (c : tie.In-loop-packet invariant-loop decreases-loop) →
+    c.loop-packet.at + size_at sysex8 c.args.words.now c.loop-packet.packet ≤ length c.loop-packet.bytes
 room c =
-    let d = c in
     let l = c.loop-packet in
-    omega (arith, payload-part sysex8 d.args.words.now d.args.packets l.packet c.loop-packet-test.true, piece c, l.invariant.1, l.invariant.2, d.requires.room)
+    omega (arith, payload-part sysex8 c.args.words.now c.args.packets l.packet c.loop-packet-test.true, piece c, l.invariant.1, l.invariant.2, c.requires.room)
 
 loop-again : tie.Need-loop-packet-preserved invariant-loop decreases-loop
 loop-again c =
-    let k = c in
-    let o = k in
-    let l = o.loop-packet in
-    let w = o.args.words.now in
-    let n : k.copy_packet-at.result ≡ length (payload sysex8 w (l.packet + 1)) =
-    k.copy_packet-at.ensures.0 ∙ rw (l.invariant.1, ← (piece o.before.before.before.before), add-one) (sym (copy_size sysex8 w l.packet))
+    let l = c.loop-packet in
+    let w = c.args.words.now in
+    let n : c.copy_packet-at.result ≡ length (payload sysex8 w (l.packet + 1)) =
+    c.copy_packet-at.ensures.0 ∙ rw (l.invariant.1, ← (piece c.before.before.before.before), add-one) (sym (copy_size sysex8 w l.packet))
     in
-    let e = copy_more sysex8 w _ l.bytes _ l.packet l.at (size_at sysex8 w l.packet) l.invariant.1 l.invariant.3 (sym (piece o.before.before.before.before)) k.copy_packet-at.ensures.1 in (
-      omega (arith, o.loop-packet-test.true),
+    let e = copy_more sysex8 w _ l.bytes _ l.packet l.at (size_at sysex8 w l.packet) l.invariant.1 l.invariant.3 (sym (piece c.before.before.before.before)) c.copy_packet-at.ensures.1 in (
+      omega (arith, c.loop-packet-test.true),
       n,
       omega (arith, l.invariant.2),
-      rw (add-one, k.copy_packet-at.ensures.0) e,
+      rw (add-one, c.copy_packet-at.ensures.0) e,
     )
 
 pub copy_packets_spec : {M : Type 1} → statement M

@@ -23,6 +23,6 @@ place_of_spec =
     (λ c. omega (arith, size_few c.requires.0))
     (λ c. omega (arith, (at_end c.before.before).number))
     (λ c. omega (arith, (at_end c.before.before).number, c.count_of-count.ensures))
-    (λ c. let k = c in let p = k.requires in at_once p.0 p.1 (rw k.count_of-count.ensures at c.if-size-last.true))
+    (λ c. let p = c.requires in at_once p.0 p.1 (rw c.count_of-count.ensures at c.if-size-last.true))
     (λ c κs. c.requires)
     (λ c. search rules))

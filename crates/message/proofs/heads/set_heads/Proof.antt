@@ -15,7 +15,7 @@ invariant-loop words₀ stride packets value stream packet₀ words packet = (pa
 abbrev decreases-loop : tie.decreases-loop-packet
 decreases-loop words₀ stride packets value stream packet₀ words packet = packets - packet
 
-at-packet : (c : tie.In-loop-packet invariant-loop decreases-loop) → let d = c in Here d.args.stride c.loop-packet.packet d.args.words.now
+at-packet : (c : tie.In-loop-packet invariant-loop decreases-loop) → Here c.args.stride c.loop-packet.packet c.args.words.now
 at-packet c = here c.loop-packet.packet c.requires c.loop-packet-test.true
 
 -- and inside the words as they are now
@@ -37,6 +37,6 @@ set_heads_spec =
     (λ c. index c.before.before)
     (λ c. omega (arith, (at-packet c.before.before).number))
     (λ c. omega (arith, c.loop-packet-test.true))
-    (λ c. let l = c in (omega (arith, l.loop-packet-test.true), heads_more _ l.requires.some_words l.loop-packet.invariant.1 c.with_head.ensures))
+    (λ c. (omega (arith, c.loop-packet-test.true), heads_more _ c.requires.some_words c.loop-packet.invariant.1 c.with_head.ensures))
     (λ c. c.loop-packet.invariant.1.same)
     (λ c. heads_shape c.loop-packet.invariant.1 (omega (arith, c.loop-packet.invariant.0, c.loop-packet-test.false))))

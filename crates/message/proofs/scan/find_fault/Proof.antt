@@ -7,39 +7,22 @@ use Rattle.message.proofs.scan.find_fault.Tie as tie
 
 returns_2 : tie.Need-returns-then-step-packets
 returns_2 c s h failed =
-    let o = c in
-    let e = o in
     rw c.status_refusal.ensures
-    (step_fault s _ _ h e.first_other-foreign.ensures e.if-foreign-packets.false o.first_out_of_step-step.ensures c.if-step-packets.true)
+    (step_fault s _ _ h c.first_other-foreign.ensures c.if-foreign-packets.false c.first_out_of_step-step.ensures c.if-step-packets.true)
 
 returns-3 : tie.Need-returns-then-count-packets
 returns-3 c s h failed =
-    let k = c in
-    let o = k in
-    let e = o in
-    count_fault s _ _ h e.first_other-foreign.ensures e.if-foreign-packets.false o.first_out_of_step-step.ensures k.if-step-packets.false k.first_bad_count-count.ensures c.if-count-packets.true
+    count_fault s _ _ h c.first_other-foreign.ensures c.if-foreign-packets.false c.first_out_of_step-step.ensures c.if-step-packets.false c.first_bad_count-count.ensures c.if-count-packets.true
 
 returns-4 : tie.Need-returns-then-group-packets
 returns-4 c s h failed =
-    let g = c in
-    let r = g in
-    let k = r in
-    let o = k in
-    let e = o in
-    group_fault s _ _ h e.first_other-foreign.ensures e.if-foreign-packets.false o.first_out_of_step-step.ensures k.if-step-packets.false k.first_bad_count-count.ensures r.if-count-packets.false
-    (rw g.group_of-value.ensures at g.first_other-group.ensures) c.if-group-packets.true
+    group_fault s _ _ h c.first_other-foreign.ensures c.if-foreign-packets.false c.first_out_of_step-step.ensures c.if-step-packets.false c.first_bad_count-count.ensures c.if-count-packets.false
+    (rw c.group_of-value.ensures at c.first_other-group.ensures) c.if-group-packets.true
 
 returns-5 : tie.Need-returns
 returns-5 c s h failed =
-    let i = c in
-    let l = i in
-    let g = l in
-    let r = g in
-    let k = r in
-    let o = k in
-    let e = o in
-    stream_fault s _ _ h e.first_other-foreign.ensures e.if-foreign-packets.false o.first_out_of_step-step.ensures k.if-step-packets.false k.first_bad_count-count.ensures r.if-count-packets.false
-    (rw g.group_of-value.ensures at g.first_other-group.ensures) l.if-group-packets.false (rw (i.id_of.ensures, id_value h.ids_are _) at c.first_other.ensures) failed
+    stream_fault s _ _ h c.first_other-foreign.ensures c.if-foreign-packets.false c.first_out_of_step-step.ensures c.if-step-packets.false c.first_bad_count-count.ensures c.if-count-packets.false
+    (rw c.group_of-value.ensures at c.first_other-group.ensures) c.if-group-packets.false (rw (c.id_of.ensures, id_value h.ids_are _) at c.first_other.ensures) failed
 
 pub find_fault_spec : {M : Type 1} → statement M
 find_fault_spec =

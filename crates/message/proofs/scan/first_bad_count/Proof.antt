@@ -18,7 +18,7 @@ decreases-loop words stride packets least most packet₀ packet = packets - pack
 below : (c : tie.Else-packet-packets invariant-loop decreases-loop) → c.loop-packet.packet < c.args.packets
 below c = omega (arith, c.loop-packet.invariant.within)
 
-at : (c : tie.Else-packet-packets invariant-loop decreases-loop) → let d = c in Here d.args.stride c.loop-packet.packet d.args.words.now
+at : (c : tie.Else-packet-packets invariant-loop decreases-loop) → Here c.args.stride c.loop-packet.packet c.args.words.now
 at c = here c.loop-packet.packet c.requires (below c)
 
 pub first_bad_count_spec : {M : Type 1} → statement M
@@ -35,7 +35,7 @@ first_bad_count_spec =
     (λ c. search rules)
     (λ c. omega (arith, below c.before.before.before.before))
     (λ c. omega (arith, below c.before.before.before.before))
-    (λ c. let k = c in let e = k in passed_one e.loop-packet.invariant (below e.before.before.before.before) (rw (← k.count_of-count.ensures) (count_in _ _ _ c.if-count-least.false c.if-most-count.false)))
+    (λ c. passed_one c.loop-packet.invariant (below c.before.before.before.before) (rw (← c.count_of-count.ensures) (count_in _ _ _ c.if-count-least.false c.if-most-count.false)))
     (λ c. sym c.if-packet-packets.true ∙ passed_end c.loop-packet.invariant (omega arith))
-    (λ c. let k = c in let e = k in passed_here e.loop-packet.invariant (below e.before.before.before) (rw (← k.count_of-count.ensures) (count_low _ _ _ c.if-count-least.true)))
-    (λ c. let k = c in let e = k in passed_here e.loop-packet.invariant (below e.before.before.before.before) (rw (← k.count_of-count.ensures) (count_high _ _ _ c.if-count-least.false c.if-most-count.true))))
+    (λ c. passed_here c.loop-packet.invariant (below c.before.before.before) (rw (← c.count_of-count.ensures) (count_low _ _ _ c.if-count-least.true)))
+    (λ c. passed_here c.loop-packet.invariant (below c.before.before.before.before) (rw (← c.count_of-count.ensures) (count_high _ _ _ c.if-count-least.false c.if-most-count.true))))

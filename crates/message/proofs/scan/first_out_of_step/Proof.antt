@@ -20,7 +20,7 @@ decreases-loop words stride packets packet₀ packet = packets - packet
 below : (c : tie.Else-packet-packets invariant-loop decreases-loop) → c.loop-packet.packet < c.args.packets
 below c = omega (arith, c.loop-packet.invariant.within)
 
-at : (c : tie.Else-packet-packets invariant-loop decreases-loop) → let d = c in Here d.args.stride c.loop-packet.packet d.args.words.now
+at : (c : tie.Else-packet-packets invariant-loop decreases-loop) → Here c.args.stride c.loop-packet.packet c.args.words.now
 at c = here c.loop-packet.packet c.requires (below c)
 
 pub first_out_of_step_spec : {M : Type 1} → statement M
@@ -37,6 +37,6 @@ first_out_of_step_spec =
     (λ c κs. search rules)
     (λ c. omega (arith, below c.before.before.before.before))
     (λ c. omega (arith, below c.before.before.before.before))
-    (λ c. let f = c in let k = f in let e = k in passed_one e.loop-packet.invariant (below e.before.before.before.before) (ap not (eq-eqb _ _ (sym k.status_of.ensures ∙ c.if-status_of-status_for.false ∙ f.status_for.ensures))))
+    (λ c. passed_one c.loop-packet.invariant (below c.before.before.before.before) (ap not (eq-eqb _ _ (sym c.status_of.ensures ∙ c.if-status_of-status_for.false ∙ c.status_for.ensures))))
     (λ c. sym c.if-packet-packets.true ∙ passed_end c.loop-packet.invariant (omega arith))
-    (λ c. let f = c in let k = f in let e = k in passed_here e.loop-packet.invariant (below e.before.before.before.before) (ap not (ne_eqb _ _ (rw (k.status_of.ensures, f.status_for.ensures) at c.if-status_of-status_for.true)))))
+    (λ c. passed_here c.loop-packet.invariant (below c.before.before.before.before) (ap not (ne_eqb _ _ (rw (c.status_of.ensures, c.status_for.ensures) at c.if-status_of-status_for.true)))))

@@ -1,6 +1,6 @@
 -- `message::scan::in_order`: faults and counts of the packets passed are added up. Assumes nothing.
 use borrow.Author.Rules.{rules}
-use mathlib.Core.Path.{◌≡◌, refl, sym, ap, subst, ◌∙◌}
+use mathlib.Core.Path.{◌≡◌, sym, ap, subst, ◌∙◌}
 use Prim.Native.Nat.{ℕ, ◌+◌, ◌-◌, ◌*◌, ◌%◌, ◌^◌, ◌≤◌, ◌<◌}
 use native.Mathlib.Omega.{arith}
 use lib.Bits.{bit_and}
@@ -31,8 +31,7 @@ given f = let a = f.args in record { form = f.form_of-form.result; words = a.wor
 
 inside : (f : tie.After-form_of-form invariant-loop decreases-loop) → let k = given f in Inside k.form.stride k.packets k.words
 inside f =
-    let d = f in
-    subst (λ (form : Form). Inside form.stride d.args.packets d.args.words.now) (sym f.form_of-form.ensures) d.requires.0
+    subst (λ (form : Form). Inside form.stride f.args.packets f.args.words.now) (sym f.form_of-form.ensures) f.requires.0
 
 some : (f : tie.After-form_of-form invariant-loop decreases-loop) → 0 < (given f).packets
 some f = f.requires.1
@@ -62,30 +61,25 @@ wanted g =
 -- ---- the first packet
 
 first_is : (c : tie.After-at_fault invariant-loop decreases-loop) → c.at_fault.result ≡ fault_at (given (start c.before.before)) 0
-first_is c = let s = c in c.at_fault.ensures ∙ fault_first (given (start s.before.before)) (wanted s.before.before) s.status_for.ensures
+first_is c = c.at_fault.ensures ∙ fault_first (given (start c.before.before)) (wanted c.before.before) c.status_for.ensures
 
 first-clear : (c : tie.Else-at_fault-ne0 invariant-loop decreases-loop) → fault_at (given (start c.before.before.before)) 0 ≡ 0
 first-clear c = sym (first_is c.before) ∙ c.if-at_fault-ne0.false
 
 returns : tie.Need-returns-then-at_fault-ne0 invariant-loop decreases-loop
 returns c =
-    let f = c in
-    let g = f in
-    let d = start g.before.before.before in
-    some_fault _ (given d) (of_shape d) (small (known g.before.before.before)) (λ z. c.if-at_fault-ne0.true (omega (arith, first_is f.before, total_ge (fault_at (given d)) (given d).packets 0 (some d))))
+    let d = start c.before.before.before in
+    some_fault _ (given d) (of_shape d) (small (known c.before.before.before)) (λ z. c.if-at_fault-ne0.true (omega (arith, first_is c.before, total_ge (fault_at (given d)) (given d).packets 0 (some d))))
 
 enough : tie.Need-overflow_sub-result invariant-loop decreases-loop
 enough c =
-    let f = c in
-    let k = given (start f.before.before.before.before.before.before) in
-    omega (arith, counts_enough k 0 (first-clear f.before.before.before), count_first k, f.count_of-counts.ensures)
+    let k = given (start c.before.before.before.before.before.before) in
+    omega (arith, counts_enough k 0 (first-clear c.before.before.before), count_first k, c.count_of-counts.ensures)
 
 returns_2 : tie.Need-returns-then-last-eq0 invariant-loop decreases-loop
 returns_2 c =
-    let f = c in
-    let g = f in
-    let d = start g.before.before.before.before.before.before in
-    rw f.count_of-counts.ensures (alone _ (given d) (of_shape d) (small (known g.before.before.before.before.before.before)) (inside d) (omega (arith, some d, c.if-last-eq0.true)) (first-clear f.before.before.before))
+    let d = start c.before.before.before.before.before.before in
+    rw c.count_of-counts.ensures (alone _ (given d) (of_shape d) (small (known c.before.before.before.before.before.before)) (inside d) (omega (arith, some d, c.if-last-eq0.true)) (first-clear c.before.before.before))
 
 -- ---- the last, and those in the loop
 
@@ -103,33 +97,25 @@ loop-holds : tie.Need-loop-packet-init invariant-loop decreases-loop
 loop-holds c =
     let g = grouped c in
     let d = start g in
-    let e = c in
-    let f = e in
-    let more : 0 < (given d).packets - 1 = omega (arith, e.if-last-eq0.false) in
-    summed_start more (first-clear f.before.before.before.before.before.before) (c.at_fault-bad.ensures ∙ fault_last (given d) (wanted g) ((given d).packets - 1) more (omega arith))
-    (omega (arith, count_first (given d), f.count_of-counts.ensures, c.count_of.ensures))
+    let more : 0 < (given d).packets - 1 = omega (arith, c.if-last-eq0.false) in
+    summed_start more (first-clear c.before.before.before.before.before.before) (c.at_fault-bad.ensures ∙ fault_last (given d) (wanted g) ((given d).packets - 1) more (omega arith))
+    (omega (arith, count_first (given d), c.count_of-counts.ensures, c.count_of.ensures))
 
 at : (c : tie.In-loop-packet invariant-loop decreases-loop) → let k = given (start (begun c.before)) in Here k.form.stride c.loop-packet.packet k.words
 at c = here c.loop-packet.packet (inside (start (begun c.before))) (omega (arith, c.loop-packet-test.true))
 
-inner_is : (c : tie.After-at_fault-bad-in-loop-packet invariant-loop decreases-loop) → let l = c in
-    c.at_fault-bad-in-loop-packet.result ≡ fault_at (given (start (begun l.before.before.before.before))) l.loop-packet.packet
+inner_is : (c : tie.After-at_fault-bad-in-loop-packet invariant-loop decreases-loop) →
+    c.at_fault-bad-in-loop-packet.result ≡ fault_at (given (start (begun c.before.before.before.before))) c.loop-packet.packet
 inner_is c =
-    let i = c in
-    let l = i in
-    c.at_fault-bad-in-loop-packet.ensures ∙ fault_inner (given (start (begun l.before.before.before.before))) (wanted (begun l.before.before.before.before)) l.loop-packet.packet l.loop-packet.invariant.begun (omega (arith, i.loop-packet-test.true))
+    c.at_fault-bad-in-loop-packet.ensures ∙ fault_inner (given (start (begun c.before.before.before.before))) (wanted (begun c.before.before.before.before)) c.loop-packet.packet c.loop-packet.invariant.begun (omega (arith, c.loop-packet-test.true))
 
 few : tie.Need-overflow_add-bad invariant-loop decreases-loop
 few c =
-    let i = c in
-    let l = i in
-    omega (arith, (summed_small l.loop-packet.invariant).0, (at i.before.before.before).number, inner_is c, fault_small (given (start (begun l.before.before.before.before))) l.loop-packet.packet)
+    omega (arith, (summed_small c.loop-packet.invariant).0, (at c.before.before.before).number, inner_is c, fault_small (given (start (begun c.before.before.before.before))) c.loop-packet.packet)
 
 loop-again : tie.Need-loop-packet-preserved invariant-loop decreases-loop
 loop-again c =
-    let f = c in
-    let i = f in
-    summed_more i.loop-packet.invariant i.loop-packet-test.true (inner_is f.before) c.count_of-in-loop-packet.ensures
+    summed_more c.loop-packet.invariant c.loop-packet-test.true (inner_is c.before) c.count_of-in-loop-packet.ensures
 
 -- ---- all packets
 
@@ -139,26 +125,21 @@ all c = summed_all c.loop-packet.invariant c.loop-packet-test.false (omega (arit
 
 returns-3 : tie.Need-returns-then-bad-ne0 invariant-loop decreases-loop
 returns-3 c =
-    let e = c in
-    let g = begun e.before.before in
-    some_fault _ (given (start g)) (of_shape (start g)) (small (known g)) (λ z. c.if-bad-ne0.true ((all e.before).0 ∙ z))
+    let g = begun c.before.before in
+    some_fault _ (given (start g)) (of_shape (start g)) (small (known g)) (λ z. c.if-bad-ne0.true ((all c.before).0 ∙ z))
 
 returns-4 : tie.Need-returns invariant-loop decreases-loop
 returns-4 c =
-    let k = c in
-    let e = k in
-    let g = begun e.before.before.before in
-    rw (all e.before.before).1 (no_fault _ (given (start g)) (of_shape (start g)) (small (known g)) (inside (start g)) (sym (all e.before.before).0 ∙ k.if-bad-ne0.false))
+    let g = begun c.before.before.before in
+    rw (all c.before.before).1 (no_fault _ (given (start g)) (of_shape (start g)) (small (known g)) (inside (start g)) (sym (all c.before.before).0 ∙ c.if-bad-ne0.false))
 
 -- the counts reach what is taken away, and are few
-reach : (c : tie.Else-bad-ne0 invariant-loop decreases-loop) → let l = c in
-    ((given (start (begun l.before.before))).form.least * (given (start (begun l.before.before))).packets ≤ l.loop-packet.counts) × (l.loop-packet.counts ≤ 15 * most_words)
-reach c =
-    let e = c in
-    let l = e in (
-      omega (arith, (all e.before).1, counts_reach (given (start (begun l.before.before))) (sym (all e.before).0 ∙ c.if-bad-ne0.false)),
-      omega (arith, (summed_small l.loop-packet.invariant).1, l.loop-packet.invariant.within, (at_end l.before.before.before.before.before.before.before).number),
-    )
+reach : (c : tie.Else-bad-ne0 invariant-loop decreases-loop) →
+    ((given (start (begun c.before.before))).form.least * (given (start (begun c.before.before))).packets ≤ c.loop-packet.counts) × (c.loop-packet.counts ≤ 15 * most_words)
+reach c = (
+  omega (arith, (all c.before).1, counts_reach (given (start (begun c.before.before))) (sym (all c.before).0 ∙ c.if-bad-ne0.false)),
+  omega (arith, (summed_small c.loop-packet.invariant).1, c.loop-packet.invariant.within, (at_end c.before.before.before.before.before.before.before).number),
+)
 
 pub in_order_spec : {M : Type 1} → statement M
 in_order_spec =
@@ -193,7 +174,7 @@ in_order_spec =
     (λ c. (at_end c.before).fits)
     (λ c. (at_end c.before).bytes_fit)
     (λ c. (at_end c.before.before).index)
-    (λ c. let g = c in omega (arith, g.group_of.ensures, fits (start g.before.before.before.before.before.before.before)))
+    (λ c. omega (arith, c.group_of.ensures, fits (start c.before.before.before.before.before.before.before)))
     (λ c κs. search rules)
     (λ c κs. search rules)
     (λ c. search rules)
@@ -207,7 +188,7 @@ in_order_spec =
     few
     (λ c κs. search rules)
     (λ c. search rules)
-    (λ c. let i = c in omega (arith, c.count_of-in-loop-packet.ensures, (summed_small i.loop-packet.invariant).1, (at i.before.before.before.before).number))
+    (λ c. omega (arith, c.count_of-in-loop-packet.ensures, (summed_small c.loop-packet.invariant).1, (at c.before.before.before.before).number))
     (λ c. omega (arith, (at c.before.before.before.before).number))
     (λ c. omega (arith, c.loop-packet-test.true))
     loop-again

@@ -8,10 +8,9 @@ use Rattle.message.proofs.scan.packets_of.Tie as tie
 
 whole : tie.Need-returns
 whole c =
-    let e = c in
     record {
-      some = λ l. record { few = e.if-lent-gt-MOST_WORDS.false; inside = e.if-length-lent.false; long_enough = e.if-length-stride.false; ragged_not = c.if-length-stride-ne0.false; packets = refl };
-      none = λ z m f. omega (arith, some_packet f e.requires, f.packets);
+      some = λ l. record { few = c.if-lent-gt-MOST_WORDS.false; inside = c.if-length-lent.false; long_enough = c.if-length-stride.false; ragged_not = c.if-length-stride-ne0.false; packets = refl };
+      none = λ z m f. omega (arith, some_packet f c.requires, f.packets);
     }
 
 pub packets_of_spec : {M : Type 1} → statement M

@@ -10,24 +10,18 @@ use Rattle.message.proofs.scan.why.Tie as tie
 packets : (c : tie.Else-form-packets) → let a = c.args in
     Framed (length a.words.now) a.length a.form.stride a.packets
 packets c =
-    let e = c in
-    let t = e in
-    let d = t in
     record {
-      few = t.if-words-gt-MOST_WORDS.false;
-      inside = t.if-length-words.false;
-      long_enough = e.if-length-form.false;
-      ragged_not = omega (arith, left_over d.args.length d.args.form.stride d.requires.1, c.if-form-packets.false);
-      packets = d.requires.1;
+      few = c.if-words-gt-MOST_WORDS.false;
+      inside = c.if-length-words.false;
+      long_enough = c.if-length-form.false;
+      ragged_not = omega (arith, left_over c.args.length c.args.form.stride c.requires.1, c.if-form-packets.false);
+      packets = c.requires.1;
     }
 
 ragged : tie.Need-returns-then-form-packets
 ragged c s h failed =
-    let e = c in
-    let t = e in
-    let d = t in
-    refuse_ragged s h _ _ t.if-words-gt-MOST_WORDS.false t.if-length-words.false e.if-length-form.false
-    (λ z. c.if-form-packets.true (omega (arith, left_over d.args.length d.args.form.stride d.requires.1)))
+    refuse_ragged s h _ _ c.if-words-gt-MOST_WORDS.false c.if-length-words.false c.if-length-form.false
+    (λ z. c.if-form-packets.true (omega (arith, left_over c.args.length c.args.form.stride c.requires.1)))
 
 pub why_spec : {M : Type 1} → statement M
 why_spec =
@@ -35,8 +29,8 @@ why_spec =
     (tie.spec
     (λ c s h failed. refuse_long s h _ _ c.if-words-gt-MOST_WORDS.true)
     (λ c s h failed. refuse_length s h _ _ c.if-words-gt-MOST_WORDS.false c.if-length-words.true)
-    (λ c s h failed. let t = c in refuse_short s h _ _ t.if-words-gt-MOST_WORDS.false t.if-length-words.false c.if-length-form.true)
-    (λ c. let t = c in let d = t in omega (arith, left_over d.args.length d.args.form.stride d.requires.1, t.if-words-gt-MOST_WORDS.false, t.if-length-words.false))
+    (λ c s h failed. refuse_short s h _ _ c.if-words-gt-MOST_WORDS.false c.if-length-words.false c.if-length-form.true)
+    (λ c. omega (arith, left_over c.args.length c.args.form.stride c.requires.1, c.if-words-gt-MOST_WORDS.false, c.if-length-words.false))
     ragged
     (λ c κs. let p = c.requires in let f = packets c in (framed_inside _ f p.0, some_packet f p.0, p.2))
     (λ c s h failed. let e = check_framed s h _ _ (packets c.before) in c.find_fault.ensures s h (λ z. failed (e ∙ z)) ∙ sym e))

@@ -6,8 +6,8 @@ use Rattle.message.proofs.Checked.{Taken, found_none, found_taken, taken_begins,
 use Rattle.message.proofs.sysex7.check.Statement.{statement}
 use Rattle.message.proofs.sysex7.check.Tie as tie
 
-message : (c : tie.Else-found-eq0) → let d = c in
-    Taken sysex7 d.args.words.now d.args.length (c.size_found-found.result - 1)
+message : (c : tie.Else-found-eq0) →
+    Taken sysex7 c.args.words.now c.args.length (c.size_found-found.result - 1)
 message c = found_taken sysex7 _ _ c.size_found-found.ensures c.if-found-eq0.false
 
 pub check_spec : {M : Type 1} → statement M
@@ -16,7 +16,7 @@ check_spec =
     (tie.spec
     (λ c κs. search rules)
     (λ c κs. search rules)
-    (λ c. let t = c in checked_fault sysex7 _ _ (c.why.ensures (found_none sysex7 _ _ t.size_found-found.ensures t.if-found-eq0.true)))
+    (λ c. checked_fault sysex7 _ _ (c.why.ensures (found_none sysex7 _ _ c.size_found-found.ensures c.if-found-eq0.true)))
     (λ c. taken_begins sysex7 _ _ (message c.before))
     (λ c κs. search rules)
     (λ c. search rules)

@@ -14,4 +14,4 @@ size_found_spec =
     (λ c κs. search rules)
     (λ c. found_unframed sysex7 shaped7 _ _ (c.packets_of-packets.ensures.none c.if-packets-eq0.true))
     (λ c κs. let f = c.packets_of-packets.ensures.some c.if-packets-eq0.false in (framed_inside _ f (search rules), some_packet f (search rules)))
-    (λ c. let e = c in c.in_order.ensures ∙ found_framed sysex7 shaped7 _ _ (e.packets_of-packets.ensures.some e.if-packets-eq0.false)))
+    (λ c. c.in_order.ensures ∙ found_framed sysex7 shaped7 _ _ (c.packets_of-packets.ensures.some c.if-packets-eq0.false)))

@@ -10,12 +10,12 @@ use Rattle.message.proofs.Checked.{Taken, found_none, found_taken}
 use Rattle.message.proofs.sysex8.byte.Statement.{statement}
 use Rattle.message.proofs.sysex8.byte.Tie as tie
 
-message : (c : tie.Else-found-eq0) → let d = c in Taken sysex8 d.args.words.now d.args.length (c.size_found-found.result - 1)
+message : (c : tie.Else-found-eq0) → Taken sysex8 c.args.words.now c.args.length (c.size_found-found.result - 1)
 message c = found_taken sysex8 _ _ c.size_found-found.ensures c.if-found-eq0.false
 
 returns : tie.Need-returns-then-found-eq0
 unfolding get_byte
-returns c = let t = c in rw (← (c.why.ensures (found_none sysex8 _ _ t.size_found-found.ensures t.if-found-eq0.true)))
+returns c = rw (← (c.why.ensures (found_none sysex8 _ _ c.size_found-found.ensures c.if-found-eq0.true)))
 
 returns_2 : tie.Need-returns-then-size-index
 unfolding get_byte
@@ -24,9 +24,8 @@ returns_2 c = let m = message c.before in rw (m.passes, ← m.sized, le-leb _ _ 
 returns-3 : tie.Need-returns
 unfolding get_byte
 returns-3 c =
-    let e = c in
-    let m = message e.before.before in
-    rw (m.passes, ← m.sized, lt-leb _ _ e.if-size-index.false) (ap gives c.byte_of.ensures)
+    let m = message c.before.before in
+    rw (m.passes, ← m.sized, lt-leb _ _ c.if-size-index.false) (ap gives c.byte_of.ensures)
 
 pub byte_spec : {M : Type 1} → statement M
 byte_spec =

@@ -11,9 +11,9 @@ message : (d : tie.Start) → Taken sysex8 d.args.words.now d.args.length d.args
 message d = record { passes = d.requires.0.passes; valid = passes_valid sysex8 _ _ d.requires.0.passes; sized = d.requires.0.sized }
 
 -- the byte is where it was found
-stands : (c : tie.After-place_of-place) → let d = c in
-    Standing d.args.words.now d.args.length d.args.index c.place_of-place.result.packet c.place_of-place.result.byte
-stands c = let d = c in standing (message d.before.before) d.requires.1 c.place_of-place.ensures
+stands : (c : tie.After-place_of-place) →
+    Standing c.args.words.now c.args.length c.args.index c.place_of-place.result.packet c.place_of-place.result.byte
+stands c = standing (message c.before.before) c.requires.1 c.place_of-place.ensures
 
 pub byte_of_spec : {M : Type 1} → statement M
 byte_of_spec =

@@ -10,12 +10,12 @@ use Rattle.message.proofs.Checked.{shaped8, Taken, found_none, found_taken, take
 use Rattle.message.proofs.sysex8.payload.Statement.{statement}
 use Rattle.message.proofs.sysex8.payload.Tie as tie
 
-message : (c : tie.Else-found-eq0) → let d = c in Taken sysex8 d.args.words.now d.args.length (c.size_found-found.result - 1)
+message : (c : tie.Else-found-eq0) → Taken sysex8 c.args.words.now c.args.length (c.size_found-found.result - 1)
 message c = found_taken sysex8 _ _ c.size_found-found.ensures c.if-found-eq0.false
 
 returns : tie.Need-returns-then-found-eq0
 unfolding copy_payload
-returns c = let t = c in rw (← (c.why.ensures (found_none sysex8 _ _ t.size_found-found.ensures t.if-found-eq0.true)))
+returns c = rw (← (c.why.ensures (found_none sysex8 _ _ c.size_found-found.ensures c.if-found-eq0.true)))
 
 returns_2 : tie.Need-returns-then-bytes-size
 unfolding copy_payload
@@ -24,10 +24,8 @@ returns_2 c = let m = message c.before in rw (m.passes, ← m.sized, lt-ltb _ _ 
 returns-3 : tie.Need-returns
 unfolding copy_payload
 returns-3 c =
-    let k = c in
-    let e = k in
-    let m = message e.before.before.before.before.before in
-    rw (m.passes, ← m.sized, le-ltb _ _ e.if-bytes-size.false) (ap (λ x. (gives (e.size_found-found.result - 1), x)) (k.copy_packets.ensures ∙ rw m.sized))
+    let m = message c.before.before.before.before.before in
+    rw (m.passes, ← m.sized, le-ltb _ _ c.if-bytes-size.false) (ap (λ x. (gives (c.size_found-found.result - 1), x)) (c.copy_packets.ensures ∙ rw m.sized))
 
 pub payload_spec : {M : Type 1} → statement M
 payload_spec =
@@ -38,6 +36,6 @@ payload_spec =
     returns
     (λ c. search rules)
     returns_2
-    (λ c κs. let e = c in let m = message e.before.before in record { inside = taken_inside sysex8 shaped8 _ _ m.valid; room = rw (← m.sized) e.if-bytes-size.false })
+    (λ c κs. let m = message c.before.before in record { inside = taken_inside sysex8 shaped8 _ _ m.valid; room = rw (← m.sized) c.if-bytes-size.false })
     (λ c. search rules)
     returns-3)

@@ -11,16 +11,16 @@ use Rattle.message.proofs.Places.{Standing, sized, standing}
 use Rattle.message.proofs.sysex8.set_byte.Statement.{statement}
 use Rattle.message.proofs.sysex8.set_byte.Tie as tie
 
-message : (c : tie.Else-found-eq0) → let d = c in Taken sysex8 d.args.words.now d.args.length (c.size_found-found.result - 1)
+message : (c : tie.Else-found-eq0) → Taken sysex8 c.args.words.now c.args.length (c.size_found-found.result - 1)
 message c = found_taken sysex8 _ _ c.size_found-found.ensures c.if-found-eq0.false
 
-stands : (c : tie.After-place_of-place) → let d = c in
-    Standing d.args.words.now d.args.length d.args.index c.place_of-place.result.packet c.place_of-place.result.byte
-stands c = let e = c in standing (message e.before.before) e.if-size-index.false c.place_of-place.ensures
+stands : (c : tie.After-place_of-place) →
+    Standing c.args.words.now c.args.length c.args.index c.place_of-place.result.packet c.place_of-place.result.byte
+stands c = standing (message c.before.before) c.if-size-index.false c.place_of-place.ensures
 
 returns : tie.Need-returns-then-found-eq0
 unfolding set_byte
-returns c = let t = c in rw (← (c.why.ensures (found_none sysex8 _ _ t.size_found-found.ensures t.if-found-eq0.true)))
+returns c = rw (← (c.why.ensures (found_none sysex8 _ _ c.size_found-found.ensures c.if-found-eq0.true)))
 
 returns_2 : tie.Need-returns-then-size-index
 unfolding set_byte
@@ -29,12 +29,9 @@ returns_2 c = let m = message c.before in rw (m.passes, ← m.sized, le-leb _ _ 
 returns-3 : tie.Need-returns
 unfolding set_byte
 returns-3 c =
-    let b = c in
-    let l = b in
-    let e = l in
-    let m = message e.before.before.before.before.before.before in
-    let s = stands l.before.before.before.before in
-    rw (m.passes, ← m.sized, lt-leb _ _ e.if-size-index.false, ← s.packet_is, ← s.byte_is) (ap (λ x. (pass, x)) b.store_byte.ensures)
+    let m = message c.before.before.before.before.before.before in
+    let s = stands c.before.before.before.before in
+    rw (m.passes, ← m.sized, lt-leb _ _ c.if-size-index.false, ← s.packet_is, ← s.byte_is) (ap (λ x. (pass, x)) c.store_byte.ensures)
 
 pub set_byte_spec : {M : Type 1} → statement M
 set_byte_spec =
@@ -47,7 +44,7 @@ set_byte_spec =
     (λ c. search rules)
     (λ c. search rules)
     returns_2
-    (λ c κs. let e = c in (sized (message e.before), e.if-size-index.false))
+    (λ c κs. (sized (message c.before), c.if-size-index.false))
     (λ c κs. let s = stands c.before in (s.there, s.few, s.inner))
     (λ c. search rules)
     returns-3)

@@ -12,12 +12,12 @@ use Rattle.message.proofs.Checked.{shaped8, Taken, found_none, found_taken, take
 use Rattle.message.proofs.sysex8.set_group.Statement.{statement}
 use Rattle.message.proofs.sysex8.set_group.Tie as tie
 
-message : (c : tie.Else-found-eq0) → let d = c in Taken sysex8 d.args.words.now d.args.length (c.size_found-found.result - 1)
+message : (c : tie.Else-found-eq0) → Taken sysex8 c.args.words.now c.args.length (c.size_found-found.result - 1)
 message c = found_taken sysex8 _ _ c.size_found-found.ensures c.if-found-eq0.false
 
 returns : tie.Need-returns-then-found-eq0
 unfolding set_group
-returns c = let t = c in rw (← (c.why.ensures (found_none sysex8 _ _ t.size_found-found.ensures t.if-found-eq0.true)))
+returns c = rw (← (c.why.ensures (found_none sysex8 _ _ c.size_found-found.ensures c.if-found-eq0.true)))
 
 returns_2 : tie.Need-returns-then-group-gt15
 unfolding set_group
@@ -26,12 +26,10 @@ returns_2 c = rw ((message c.before).passes, lt-ltb _ _ c.if-group-gt15.true)
 returns-3 : tie.Need-returns
 unfolding set_group
 returns-3 c =
-    let h = c in
-    let e = h in
-    let a = e.args in
-    let whole : a.group % 16 ≡ a.group = omega (arith, e.if-group-gt15.false) in
-    rw ((message e.before.before.before.before.before).passes, le-ltb _ _ e.if-group-gt15.false)
-    (ap (λ l. (pass, l)) (h.set_heads.ensures sysex8 refl ∙ ap (λ (g : ℕ). on_heads sysex8 (λ x. with_group x g) a.words.now (a.length / 4)) whole))
+    let a = c.args in
+    let whole : a.group % 16 ≡ a.group = omega (arith, c.if-group-gt15.false) in
+    rw ((message c.before.before.before.before.before).passes, le-ltb _ _ c.if-group-gt15.false)
+    (ap (λ l. (pass, l)) (c.set_heads.ensures sysex8 refl ∙ ap (λ (g : ℕ). on_heads sysex8 (λ x. with_group x g) a.words.now (a.length / 4)) whole))
 
 pub set_group_spec : {M : Type 1} → statement M
 set_group_spec =

@@ -9,18 +9,17 @@ use Rattle.message.proofs.Checked.{shaped8, Taken, found_none, found_taken, take
 use Rattle.message.proofs.sysex8.set_stream_id.Statement.{statement}
 use Rattle.message.proofs.sysex8.set_stream_id.Tie as tie
 
-message : (c : tie.Else-found-eq0) → let d = c in Taken sysex8 d.args.words.now d.args.length (c.size_found-found.result - 1)
+message : (c : tie.Else-found-eq0) → Taken sysex8 c.args.words.now c.args.length (c.size_found-found.result - 1)
 message c = found_taken sysex8 _ _ c.size_found-found.ensures c.if-found-eq0.false
 
 returns : tie.Need-returns-then-found-eq0
 unfolding set_id
-returns c = let t = c in rw (← (c.why.ensures (found_none sysex8 _ _ t.size_found-found.ensures t.if-found-eq0.true)))
+returns c = rw (← (c.why.ensures (found_none sysex8 _ _ c.size_found-found.ensures c.if-found-eq0.true)))
 
 returns_2 : tie.Need-returns
 unfolding set_id
 returns_2 c =
-    let h = c in
-    rw (message h.before.before.before.before).passes (ap (λ l. (pass, l)) (h.set_heads.ensures sysex8 refl))
+    rw (message c.before.before.before.before).passes (ap (λ l. (pass, l)) (c.set_heads.ensures sysex8 refl))
 
 pub set_stream_id_spec : {M : Type 1} → statement M
 set_stream_id_spec =

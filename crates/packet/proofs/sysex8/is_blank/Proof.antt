@@ -7,42 +7,32 @@ use Rattle.packet.proofs.sysex8.is_blank.Tie as tie
 
 returns : tie.Need-returns-then-octet_of-ne0
 returns c =
-    let k = c in
-    let w = k in
-    rw (blank-words _ w.requires w.shared_slice_known-2-1.given, ne_eqb _ _ (rw k.octet_of.ensures at c.if-octet_of-ne0.true))
+    rw (blank-words _ c.requires c.shared_slice_known-2-1.given, ne_eqb _ _ (rw c.octet_of.ensures at c.if-octet_of-ne0.true))
 
 returns_2 : tie.Need-returns-then-words-ne0
 returns_2 c =
-    let k = c in
-    let e = k in
     rw (
-      blank-words _ e.requires k.shared_slice_known-3-1.given,
-      eq-eqb _ _ (rw e.octet_of.ensures at e.if-octet_of-ne0.false),
+      blank-words _ c.requires c.shared_slice_known-3-1.given,
+      eq-eqb _ _ (rw c.octet_of.ensures at c.if-octet_of-ne0.false),
       ne_eqb _ _ c.if-words-ne0.true,
     )
 
 returns-3 : tie.Need-returns-then-words-ne0-2
 returns-3 c =
-    let k = c in
-    let f = k in
-    let e = f in
     rw (
-      blank-words _ e.requires k.shared_slice_known-4-1.given,
-      eq-eqb _ _ (rw e.octet_of.ensures at e.if-octet_of-ne0.false),
-      eq-eqb _ _ f.if-words-ne0.false,
+      blank-words _ c.requires c.shared_slice_known-4-1.given,
+      eq-eqb _ _ (rw c.octet_of.ensures at c.if-octet_of-ne0.false),
+      eq-eqb _ _ c.if-words-ne0.false,
       ne_eqb _ _ c.if-words-ne0-2.true,
     )
 
 returns-4 : tie.Need-returns
 returns-4 c =
-    let g = c in
-    let f = g in
-    let e = f in
     rw (
-      blank-words _ e.requires c.shared_slice_known-5-1.given,
-      eq-eqb _ _ (rw e.octet_of.ensures at e.if-octet_of-ne0.false),
-      eq-eqb _ _ f.if-words-ne0.false,
-      eq-eqb _ _ g.if-words-ne0-2.false,
+      blank-words _ c.requires c.shared_slice_known-5-1.given,
+      eq-eqb _ _ (rw c.octet_of.ensures at c.if-octet_of-ne0.false),
+      eq-eqb _ _ c.if-words-ne0.false,
+      eq-eqb _ _ c.if-words-ne0-2.false,
     )
 
 pub is_blank_spec : {M : Type 1} → statement M

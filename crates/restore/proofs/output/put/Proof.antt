@@ -9,24 +9,16 @@ use Rattle.restore.proofs.output.put.Tie as tie
 
 slice-write-words : tie.Need-bounds-words-0
 slice-write-words c =
-    let k = c in
-    let s = k in
-    omega (arith, k.clear.auto.words, s.requires.1.1, words_four (length s.args.bytes.now))
+    omega (arith, c.clear.auto.words, c.requires.1.1, words_four (length c.args.bytes.now))
 
 same_length : tie.Need-shape_of-words
 same_length c =
-    let p = c in
-    let k = p in
-    p.set_payload.auto.words ∙ length-set k.clear.new.words 0 _ ∙ k.clear.auto.words
+    c.set_payload.auto.words ∙ length-set c.clear.new.words 0 _ ∙ c.clear.auto.words
 
 returns : tie.Need-returns
 returns c =
-    let p = c in
-    let f = p in
-    let k = f in
-    let s = k in
-    let x = s.args in
-    (c.words_needed.ensures, put_is x.group x.id s.requires.0 (omega arith) x.words.now x.bytes.now s.requires.1.0 s.requires.1.1 k.clear.ensures f.first_word.ensures p.set_payload.ensures)
+    let x = c.args in
+    (c.words_needed.ensures, put_is x.group x.id c.requires.0 (omega arith) x.words.now x.bytes.now c.requires.1.0 c.requires.1.1 c.clear.ensures c.first_word.ensures c.set_payload.ensures)
 
 pub put_spec : {M : Type 1} → statement M
 put_spec =

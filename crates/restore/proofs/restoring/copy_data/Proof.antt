@@ -24,46 +24,35 @@ same_length c = c.loop-count.invariant.long
 
 returns : tie.Need-returns-then-to-size invariant-loop decreases-loop
 returns c =
-    let t = c in
-    let l = t in
-    let here = test_is is_data t.is_data.ensures t.byte.ensures t.loop-count-test.true in
-    let h = data_inside l.args.store.now l.loop-count.place here in
-    over_ran (laying_over l.loop-count.invariant here c.body_here-count.ensures.body (c.body_here-count.ensures.inside h) l.requires c.if-to-size.true)
+    let here = test_is is_data c.is_data.ensures c.byte.ensures c.loop-count-test.true in
+    let h = data_inside c.args.store.now c.loop-count.place here in
+    over_ran (laying_over c.loop-count.invariant here c.body_here-count.ensures.body (c.body_here-count.ensures.inside h) c.requires c.if-to-size.true)
 
 add-copy : tie.Need-overflow_add-place invariant-loop decreases-loop
 add-copy c =
-    let t = c in
-    let l = t in
-    let here = test_is is_data t.is_data.ensures t.byte.ensures t.loop-count-test.true in
-    omega (arith, data_inside l.args.store.now l.loop-count.place here)
+    let here = test_is is_data c.is_data.ensures c.byte.ensures c.loop-count-test.true in
+    omega (arith, data_inside c.args.store.now c.loop-count.place here)
 
 copy-requires : tie.Need-copy-requires invariant-loop decreases-loop
 copy-requires c κs =
-    let t = c in
-    let l = t in
-    let here = test_is is_data t.is_data.ensures t.byte.ensures t.loop-count-test.true in
-    let h = data_inside l.args.store.now l.loop-count.place here in
-    (omega (arith, l.loop-count.invariant.long, l.loop-count.invariant.fits), c.body_here-count.ensures.inside h)
+    let here = test_is is_data c.is_data.ensures c.byte.ensures c.loop-count-test.true in
+    let h = data_inside c.args.store.now c.loop-count.place here in
+    (omega (arith, c.loop-count.invariant.long, c.loop-count.invariant.fits), c.body_here-count.ensures.inside h)
 
 add-size : tie.Need-overflow_add-size invariant-loop decreases-loop
 add-size c = let l = c.loop-count in omega (arith, l.invariant.long, l.invariant.fits)
 
 loop-less : tie.Need-loop-count-smaller invariant-loop decreases-loop
 loop-less c =
-    let t = c in
-    let l = t in
-    let here = test_is is_data t.is_data.ensures t.byte.ensures t.loop-count-test.true in
-    let h = data_inside l.args.store.now l.loop-count.place here in
+    let here = test_is is_data c.is_data.ensures c.byte.ensures c.loop-count-test.true in
+    let h = data_inside c.args.store.now c.loop-count.place here in
     omega (arith, h, (c.next-place.ensures.on h).0)
 
 loop-again : tie.Need-loop-count-preserved invariant-loop decreases-loop
 loop-again c =
-    let e = c in
-    let t = e in
-    let l = t in
-    let here = test_is is_data t.is_data.ensures t.byte.ensures t.loop-count-test.true in
-    let h = data_inside l.args.store.now l.loop-count.place here in
-    laying_more l.loop-count.invariant here e.body_here-count.ensures.body (e.body_here-count.ensures.inside h) e.if-to-size.false c.copy.ensures (c.next-place.ensures.is h)
+    let here = test_is is_data c.is_data.ensures c.byte.ensures c.loop-count-test.true in
+    let h = data_inside c.args.store.now c.loop-count.place here in
+    laying_more c.loop-count.invariant here c.body_here-count.ensures.body (c.body_here-count.ensures.inside h) c.if-to-size.false c.copy.ensures (c.next-place.ensures.is h)
 
 same-length-2 : tie.Need-shape_of-to invariant-loop decreases-loop
 same-length-2 c = c.loop-count.invariant.long

@@ -7,29 +7,22 @@ use Rattle.restore.proofs.restoring.copy_edit.Tie as tie
 
 copy-part-requires : tie.Need-copy_part-part-requires
 copy-part-requires c κs =
-    let s = c in
-    (omega (arith, c.number_at.ensures.0, s.requires.1.0), s.requires.1.1)
+    (omega (arith, c.number_at.ensures.0, c.requires.1.0), c.requires.1.1)
 
 copy-data-requires : tie.Need-copy_data-requires
 copy-data-requires c κs =
-    let p = c in
-    (p.copy_part-part.ensures.sized _ c.in-Size.is).0
+    (c.copy_part-part.ensures.sized _ c.in-Size.is).0
 
 returns : tie.Need-returns-in-Over
 returns c =
-    let p = c in
-    let x = p.args in
-    edit_over x.store.now x.at x.base.now x.end x.to.now x.done p.number_at.ensures.0 p.copy_part-part.ensures c.in-Over.is
+    let x = c.args in
+    edit_over x.store.now x.at x.base.now x.end x.to.now x.done c.number_at.ensures.0 c.copy_part-part.ensures c.in-Over.is
 
 returns_2 : tie.Need-returns-in-Size
 returns_2 c =
-    let d = c in
-    let n = d in
-    let p = n in
-    let s = p in
-    let x = s.args in
-    edit_done x.store.now x.at x.base.now x.end x.to.now x.done p.number_at.ensures.0 p.copy_part-part.ensures
-    n.in-Size.is p.copy_part-part.auto.to (n.next.ensures.is s.requires.0) d.copy_data.ensures
+    let x = c.args in
+    edit_done x.store.now x.at x.base.now x.end x.to.now x.done c.number_at.ensures.0 c.copy_part-part.ensures
+    c.in-Size.is c.copy_part-part.auto.to (c.next.ensures.is c.requires.0) c.copy_data.ensures
 
 pub copy_edit_spec : {M : Type 1} → statement M
 copy_edit_spec =

@@ -18,77 +18,51 @@ decreases-loop store at base size to₀ place₀ end₀ done₀ to place end don
 
 loop-holds : tie.Need-loop-to-init invariant-loop decreases-loop
 loop-holds c =
-    let s = c in
-    replaying_start s.args.store.now _ _ _ _ s.requires.1 c.skip_data-place.ensures.rest c.skip_data-place.ensures.stops
+    replaying_start c.args.store.now _ _ _ _ c.requires.1 c.skip_data-place.ensures.rest c.skip_data-place.ensures.stops
 
 copy-edit-requires : tie.Need-copy_edit-run-requires invariant-loop decreases-loop
 copy-edit-requires c κs =
-    let t = c in
-    let l = t in
-    let s = l in
-    let e = test_is is_edit t.is_edit.ensures t.byte.ensures t.loop-to-test.true in
-    let f = edit_from l.loop-to.invariant e s.requires.0 in
-    (edit_inside s.args.store.now l.loop-to.place e, (omega (arith, f, s.requires.0), omega (arith, l.loop-to.invariant.long, l.loop-to.invariant.fits)))
+    let e = test_is is_edit c.is_edit.ensures c.byte.ensures c.loop-to-test.true in
+    let f = edit_from c.loop-to.invariant e c.requires.0 in
+    (edit_inside c.args.store.now c.loop-to.place e, (omega (arith, f, c.requires.0), omega (arith, c.loop-to.invariant.long, c.loop-to.invariant.fits)))
 
 same_length : tie.Need-shape_of-to-in_default invariant-loop decreases-loop
 same_length c =
-    let r = c in
-    r.copy_edit-run.auto.to ∙ r.loop-to.invariant.long
+    c.copy_edit-run.auto.to ∙ c.loop-to.invariant.long
 
 returns : tie.Need-returns-in_default invariant-loop decreases-loop
 returns c =
-    let r = c in
-    let t = r in
-    let l = t in
-    let s = l in
-    let e = test_is is_edit t.is_edit.ensures t.byte.ensures t.loop-to-test.true in
-    over_filling (replaying_over l.loop-to.invariant e s.requires.0 (r.copy_edit-run.ensures.over c.in_default.is))
+    let e = test_is is_edit c.is_edit.ensures c.byte.ensures c.loop-to-test.true in
+    over_filling (replaying_over c.loop-to.invariant e c.requires.0 (c.copy_edit-run.ensures.over c.in_default.is))
 
 add-number-at : tie.Need-overflow_add-place invariant-loop decreases-loop
 add-number-at c =
-    let t = c in
-    let l = t in
-    let s = l in
-    let h = edit_inside s.args.store.now l.loop-to.place (test_is is_edit t.is_edit.ensures t.byte.ensures t.loop-to-test.true) in
+    let h = edit_inside c.args.store.now c.loop-to.place (test_is is_edit c.is_edit.ensures c.byte.ensures c.loop-to-test.true) in
     omega arith
 
 loop-less : tie.Need-loop-to-smaller invariant-loop decreases-loop
 loop-less c =
-    let r = c in
-    let t = r in
-    let l = t in
-    let s = l in
-    let h = edit_inside s.args.store.now l.loop-to.place (test_is is_edit t.is_edit.ensures t.byte.ensures t.loop-to-test.true) in
-    let o = (r.copy_edit-run.ensures.done _ c.in-Done.is).past.on in
+    let h = edit_inside c.args.store.now c.loop-to.place (test_is is_edit c.is_edit.ensures c.byte.ensures c.loop-to-test.true) in
+    let o = (c.copy_edit-run.ensures.done _ c.in-Done.is).past.on in
     omega (arith, h, o)
 
 loop-again : tie.Need-loop-to-preserved invariant-loop decreases-loop
 loop-again c =
-    let r = c in
-    let t = r in
-    let l = t in
-    let s = l in
-    let e = test_is is_edit t.is_edit.ensures t.byte.ensures t.loop-to-test.true in
+    let e = test_is is_edit c.is_edit.ensures c.byte.ensures c.loop-to-test.true in
     rw c.number_at-end.ensures.0
-    (replaying_more l.loop-to.invariant e s.requires.0 r.copy_edit-run.auto.to (r.copy_edit-run.ensures.done _ c.in-Done.is))
+    (replaying_more c.loop-to.invariant e c.requires.0 c.copy_edit-run.auto.to (c.copy_edit-run.ensures.done _ c.in-Done.is))
 
 copy-part-requires : tie.Need-copy_part-requires invariant-loop decreases-loop
 copy-part-requires c κs =
-    let l = c in
-    let s = l in
-    (s.requires.0, omega (arith, l.loop-to.invariant.long, l.loop-to.invariant.fits))
+    (c.requires.0, omega (arith, c.loop-to.invariant.long, c.loop-to.invariant.fits))
 
 same-length-2 : tie.Need-shape_of-to invariant-loop decreases-loop
 same-length-2 c =
-    let r = c in
-    r.copy_part.auto.to ∙ r.loop-to.invariant.long
+    c.copy_part.auto.to ∙ c.loop-to.invariant.long
 
 returns_2 : tie.Need-returns invariant-loop decreases-loop
 returns_2 c =
-    let r = c in
-    let t = r in
-    let l = t in
-    filling_as (replaying_end l.loop-to.invariant (test_is is_edit t.is_edit.ensures t.byte.ensures t.loop-to-test.false)) l.loop-to.invariant.long r.copy_part.ensures
+    filling_as (replaying_end c.loop-to.invariant (test_is is_edit c.is_edit.ensures c.byte.ensures c.loop-to-test.false)) c.loop-to.invariant.long c.copy_part.ensures
 
 pub copy_edits_spec : {M : Type 1} → statement M
 copy_edits_spec =

@@ -10,55 +10,35 @@ use Rattle.restore.proofs.restoring.lay_delta.Tie as tie
 
 returns : tie.Need-returns-then-some_outside
 returns c =
-    let o = c in
-    let s = o in
-    let x = s.args in
-    rebuilt_range (exceeds x.lent) _ (base_in x.held x.base.now) (outside_here x.store.now x.at x.held.size x.base.now s.requires.1.0 (o.next-place.ensures.is s.requires.0) (sym o.some_outside.ensures ∙ c.if-some_outside.true))
+    let x = c.args in
+    rebuilt_range (exceeds x.lent) _ (base_in x.held x.base.now) (outside_here x.store.now x.at x.held.size x.base.now c.requires.1.0 (c.next-place.ensures.is c.requires.0) (sym c.some_outside.ensures ∙ c.if-some_outside.true))
 
 copy-edits-requires : tie.Need-copy_edits-filled-requires
 copy-edits-requires c κs =
-    let e = c in
-    let s = e in
-    (s.requires.1.0, sym e.some_outside.ensures ∙ e.if-some_outside.false)
+    (c.requires.1.0, sym c.some_outside.ensures ∙ c.if-some_outside.false)
 
 returns_2 : tie.Need-returns-then-lent-words_needed
 returns_2 c =
-    let w = c in
-    let m = w in
-    let d = m in
-    let e = d in
-    let o = e in
-    let s = o in
-    let x = s.args in
-    let f = (edits_behind x.store.now x.at (take x.held.size x.base.now) (o.next-place.ensures.is s.requires.0) d.copy_edits-filled.ensures).sized _ m.in-Size.is in
+    let x = c.args in
+    let f = (edits_behind x.store.now x.at (take x.held.size x.base.now) (c.next-place.ensures.is c.requires.0) c.copy_edits-filled.ensures).sized _ c.in-Size.is in
     rebuilt-roomed (exceeds x.lent) _ (base_in x.held x.base.now)
-    (outside_here x.store.now x.at x.held.size x.base.now s.requires.1.0 (o.next-place.ensures.is s.requires.0) (sym o.some_outside.ensures ∙ e.if-some_outside.false))
-    (room_short x.lent _ _ f w.words_needed.ensures c.if-lent-words_needed.true)
+    (outside_here x.store.now x.at x.held.size x.base.now c.requires.1.0 (c.next-place.ensures.is c.requires.0) (sym c.some_outside.ensures ∙ c.if-some_outside.false))
+    (room_short x.lent _ _ f c.words_needed.ensures c.if-lent-words_needed.true)
 
 returns-3 : tie.Need-returns-in-Over
 returns-3 c =
-    let d = c in
-    let e = d in
-    let o = e in
-    let s = o in
-    let x = s.args in
+    let x = c.args in
     rebuilt-roomed (exceeds x.lent) _ (base_in x.held x.base.now)
-    (outside_here x.store.now x.at x.held.size x.base.now s.requires.1.0 (o.next-place.ensures.is s.requires.0) (sym o.some_outside.ensures ∙ e.if-some_outside.false))
-    (room_over x.lent _ x.to.now s.requires.1.1 ((edits_behind x.store.now x.at (take x.held.size x.base.now) (o.next-place.ensures.is s.requires.0) d.copy_edits-filled.ensures).over c.in-Over.is))
+    (outside_here x.store.now x.at x.held.size x.base.now c.requires.1.0 (c.next-place.ensures.is c.requires.0) (sym c.some_outside.ensures ∙ c.if-some_outside.false))
+    (room_over x.lent _ x.to.now c.requires.1.1 ((edits_behind x.store.now x.at (take x.held.size x.base.now) (c.next-place.ensures.is c.requires.0) c.copy_edits-filled.ensures).over c.in-Over.is))
 
 returns-4 : tie.Need-returns-else-lent-words_needed
 returns-4 c =
-    let w = c in
-    let m = w in
-    let d = m in
-    let e = d in
-    let o = e in
-    let s = o in
-    let x = s.args in
-    let f = (edits_behind x.store.now x.at (take x.held.size x.base.now) (o.next-place.ensures.is s.requires.0) d.copy_edits-filled.ensures).sized _ m.in-Size.is in
+    let x = c.args in
+    let f = (edits_behind x.store.now x.at (take x.held.size x.base.now) (c.next-place.ensures.is c.requires.0) c.copy_edits-filled.ensures).sized _ c.in-Size.is in
     rebuilt-roomed (exceeds x.lent) _ (base_in x.held x.base.now)
-    (outside_here x.store.now x.at x.held.size x.base.now s.requires.1.0 (o.next-place.ensures.is s.requires.0) (sym o.some_outside.ensures ∙ e.if-some_outside.false))
-    (room_is x.lent _ _ f w.words_needed.ensures c.if-lent-words_needed.false refl refl)
+    (outside_here x.store.now x.at x.held.size x.base.now c.requires.1.0 (c.next-place.ensures.is c.requires.0) (sym c.some_outside.ensures ∙ c.if-some_outside.false))
+    (room_is x.lent _ _ f c.words_needed.ensures c.if-lent-words_needed.false refl refl)
 
 pub lay_delta_spec : {M : Type 1} → statement M
 lay_delta_spec =

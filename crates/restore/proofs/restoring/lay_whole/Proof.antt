@@ -10,33 +10,22 @@ use Rattle.restore.proofs.restoring.lay_whole.Tie as tie
 
 returns : tie.Need-returns-then-lent-words_needed
 returns c =
-    let w = c in
-    let m = w in
-    let d = m in
-    let s = d in
-    let x = s.args in
-    let f = (data_behind x.store.now x.at (d.next.ensures.is s.requires.0) d.copy_data-run.ensures).done _ m.in-Done.is in
-    room_short x.lent (whole_at x.store.now x.at) _ (f.fits, f.laid) w.words_needed.ensures c.if-lent-words_needed.true
+    let x = c.args in
+    let f = (data_behind x.store.now x.at (c.next.ensures.is c.requires.0) c.copy_data-run.ensures).done _ c.in-Done.is in
+    room_short x.lent (whole_at x.store.now x.at) _ (f.fits, f.laid) c.words_needed.ensures c.if-lent-words_needed.true
 
 returns_2 : tie.Need-returns-in-Over
 returns_2 c =
-    let d = c in
-    let s = d in
-    let x = s.args in
-    room_over x.lent (whole_at x.store.now x.at) x.to.now s.requires.1.1
-    ((data_behind x.store.now x.at (d.next.ensures.is s.requires.0) d.copy_data-run.ensures).over c.in-Over.is)
+    let x = c.args in
+    room_over x.lent (whole_at x.store.now x.at) x.to.now c.requires.1.1
+    ((data_behind x.store.now x.at (c.next.ensures.is c.requires.0) c.copy_data-run.ensures).over c.in-Over.is)
 
 returns-3 : tie.Need-returns-else-lent-words_needed
 returns-3 c =
-    let e = c in
-    let w = e in
-    let m = w in
-    let d = m in
-    let s = d in
-    let x = s.args in
-    let whole = whole_dump (get_or x.store.now x.at 0) s.requires.1.0 in
-    let f = (data_behind x.store.now x.at (d.next.ensures.is s.requires.0) d.copy_data-run.ensures).done _ m.in-Done.is in
-    room_is x.lent (whole_at x.store.now x.at) _ (f.fits, f.laid) w.words_needed.ensures e.if-lent-words_needed.false
+    let x = c.args in
+    let whole = whole_dump (get_or x.store.now x.at 0) c.requires.1.0 in
+    let f = (data_behind x.store.now x.at (c.next.ensures.is c.requires.0) c.copy_data-run.ensures).done _ c.in-Done.is in
+    room_is x.lent (whole_at x.store.now x.at) _ (f.fits, f.laid) c.words_needed.ensures c.if-lent-words_needed.false
     (c.byte.ensures ∙ group_here x.store.now x.at whole)
     (c.byte-in-Done.ensures ∙ id_here x.store.now x.at whole)
 

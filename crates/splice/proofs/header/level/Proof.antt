@@ -12,4 +12,4 @@ level_spec =
     (λ c. search rules)
     (λ c κs. search rules)
     (λ c. search rules)
-    (λ c. let p = c in p.put_head-2.ensures ∙ rw p.put_head.ensures))
+    (λ c. c.put_head-2.ensures ∙ rw c.put_head.ensures))

@@ -19,19 +19,16 @@ start c = c.before.before.before.before.before.before.before
 
 returns : tie.Need-returns
 returns c =
-    let z = c in
-    let l = z in
-    let f = l in
-    let x = f.args in
-    let zeros : z.zero.new.words ≡ zeroed l.put_head-2.new.words x.end x.old = z.zero.ensures in
-    zeros ∙ rw (l.put_head-2.ensures, l.head-2.ensures.0, f.put_head.ensures, f.head.ensures.0)
+    let x = c.args in
+    let zeros : c.zero.new.words ≡ zeroed c.put_head-2.new.words x.end x.old = c.zero.ensures in
+    zeros ∙ rw (c.put_head-2.ensures, c.head-2.ensures.0, c.put_head.ensures, c.head.ensures.0)
 
 pub finish_spec : {M : Type 1} → statement M
 finish_spec =
     tie.close
     (tie.spec
-    (λ c κs. let s = c in let p = packets s.before.before in (s.requires.0, (p.0, p.1.0)))
-    (λ c κs. let s = c in (c.head.ensures.1, omega (arith, s.requires, packets s.before.before.before)))
+    (λ c κs. let p = packets c.before.before in (c.requires.0, (p.0, p.1.0)))
+    (λ c κs. (c.head.ensures.1, omega (arith, c.requires, packets c.before.before.before)))
     (λ c. (packets (start c)).1.0)
     (λ c κs. let p = packets (start c) in ((start c).requires.0, (p.0, omega (arith, p.1.0))))
     (λ c. (packets (start c.before)).1.1)

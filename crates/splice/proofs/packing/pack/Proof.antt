@@ -20,28 +20,23 @@ start l = l.before.before.before.before.before.before.before
 
 loop-holds : tie.Need-loop-packet-init invariant-loop decreases-loop
 loop-holds c =
-    let b = c in
-    let st = b in
-    (bounds st.requires _ _ _ _ b.base_of-base.ensures c.inner_head-head.ensures c.words_needed-end.ensures refl, (omega arith, rw c.nothing-flow.ensures (repack-start st.requires _)))
+    (bounds c.requires _ _ _ _ c.base_of-base.ensures c.inner_head-head.ensures c.words_needed-end.ensures refl, (omega arith, rw c.nothing-flow.ensures (repack-start c.requires _)))
 
 take-packet-requires : tie.Need-take_packet-flow-requires invariant-loop decreases-loop
 take-packet-requires c κs =
-    let l = c in
-    let b = l.loop-packet.invariant.0 in
-    repack_ready (start l.before.before).requires _ l.loop-packet.packet l.loop-packet.flow l.loop-packet.words l.loop-packet.invariant.1.1 (omega (arith, b.whole)) b.free
+    let b = c.loop-packet.invariant.0 in
+    repack_ready (start c.before.before).requires _ c.loop-packet.packet c.loop-packet.flow c.loop-packet.words c.loop-packet.invariant.1.1 (omega (arith, b.whole)) b.free
 
 loop-again : tie.Need-loop-packet-preserved invariant-loop decreases-loop
 loop-again c =
-    let l = c in
-    let i = l.loop-packet.invariant in
-    (i.0, (omega arith, repack-step (start l.before.before.before.before.before).requires _ l.loop-packet.packet l.loop-packet.flow l.loop-packet.words i.1.1 (omega (arith, i.0.whole)) _ _ c.take_packet-flow.ensures))
+    let i = c.loop-packet.invariant in
+    (i.0, (omega arith, repack-step (start c.before.before.before.before.before).requires _ c.loop-packet.packet c.loop-packet.flow c.loop-packet.words i.1.1 (omega (arith, i.0.whole)) _ _ c.take_packet-flow.ensures))
 
 flush-requires : tie.Need-flush-requires invariant-loop decreases-loop
 flush-requires c κs =
-    let l = c in
-    let b = l.loop-packet.invariant.0 in (
+    let b = c.loop-packet.invariant.0 in (
       omega (arith, b.reach, b.room, b.small),
-      (omega (arith, b.reach, b.room, l.loop-packet.invariant.1.1.flows.long), (repack_high (start l.before.before).requires _ l.loop-packet.invariant.1.1, b.free)),
+      (omega (arith, b.reach, b.room, c.loop-packet.invariant.1.1.flows.long), (repack_high (start c.before.before).requires _ c.loop-packet.invariant.1.1, b.free)),
     )
 
 finish-requires : tie.Need-finish-requires invariant-loop decreases-loop
@@ -51,12 +46,10 @@ finish-requires c κs =
 
 returns : tie.Need-returns invariant-loop decreases-loop
 returns c =
-    let flushed = c in
-    let l = flushed in
-    let x = (start l.before.before.before.before.before.before.before.before.before).args in
-    let i = l.loop-packet.invariant in
-    let all : l.loop-packet.packet ≡ x.length / 4 = omega (arith, i.1.0) in
-    (i.0.ends, c.finish.ensures ∙ repack_end (start l.before.before.before.before.before.before.before.before.before).requires i.0 (rw all at i.1.1) _ flushed.flush.ensures)
+    let x = (start c.before.before.before.before.before.before.before.before.before).args in
+    let i = c.loop-packet.invariant in
+    let all : c.loop-packet.packet ≡ x.length / 4 = omega (arith, i.1.0) in
+    (i.0.ends, c.finish.ensures ∙ repack_end (start c.before.before.before.before.before.before.before.before.before).requires i.0 (rw all at i.1.1) _ c.flush.ensures)
 
 pub pack_spec : {M : Type 1} → statement M
 pack_spec =

@@ -6,14 +6,12 @@ use Rattle.splice.proofs.replacing.fill.Tie as tie
 
 returns : tie.Need-returns-then-is_full
 returns c =
-    let st = c in
-    filled_already st.requires (c.is_full.ensures c.if-is_full.true)
+    filled_already c.requires (c.is_full.ensures c.if-is_full.true)
 
 returns_2 : tie.Need-returns
 returns_2 c =
-    let st = c in
     let pack = c.pack in
-    filled_packed st.requires pack.ensures.0 pack.ensures.1
+    filled_packed c.requires pack.ensures.0 pack.ensures.1
 
 pub fill_spec : {M : Type 1} → statement M
 fill_spec = tie.close (tie.spec (λ c κs. search rules) (λ c. search rules) returns (λ c κs. search rules) (λ c. search rules) returns_2)

@@ -11,9 +11,8 @@ use Rattle.splice.proofs.replacing.is_full.Tie as tie
 
 some : (c : tie.After-count_of) → (1 ≤ c.count_of.result) × (c.count_of.result ≤ 14)
 some c =
-    let st = c in
-    let at : st.args.length - 4 ≡ 4 * (st.args.length / 4 - 1) = omega (arith, inside st.requires) in
-    omega (arith, rw at at c.count_of.ensures, counts st.requires (st.args.length / 4 - 1) (omega (arith, inside st.requires)))
+    let at : c.args.length - 4 ≡ 4 * (c.args.length / 4 - 1) = omega (arith, inside c.requires) in
+    omega (arith, rw at at c.count_of.ensures, counts c.requires (c.args.length / 4 - 1) (omega (arith, inside c.requires)))
 
 returns : tie.Need-returns
 returns c e = full_is c.requires (c.count_of.result - 1) (ap (λ (n : ℕ). n - 1) c.count_of.ensures) (eqb-true _ _ e)

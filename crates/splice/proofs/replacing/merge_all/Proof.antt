@@ -38,45 +38,39 @@ abbrev over-of : tie.After-less_after-less → tie.After-over-gained
 over-of c = c.before.before.before
 
 merge-requires : tie.Need-merge-requires
-merge-requires c κs = let n = c in record { source = _; merges = merges_shrink (start_of (over-of n.before)).requires.lists n.less_after-less.ensures }
+merge-requires c κs = record { source = _; merges = merges_shrink (start_of (over-of c.before)).requires.lists c.less_after-less.ensures }
 
 below-bytes : (c : tie.After-over-gained) → Below 256 (start_of c).args.bytes.now
 below-bytes c = below_at 256 (start_of c).args.bytes.now (λ k l. omega (arith, c.shared_slice_known-2-1.given k))
 
-grows : (c : tie.After-merge) (source : List ℕ) → let n = c in let x = (start_of (over-of n.before.before)).args in
+grows : (c : tie.After-merge) (source : List ℕ) → let x = (start_of (over-of c.before.before)).args in
     Lists x.words.now x.head x.size x.total x.numbers.now x.bytes.now source
-    → Merges c.merge.new.words x.head n.less_after-less.result x.total x.numbers.now x.bytes.now true true (merged false false 0 (edits_of x.numbers.now) source x.bytes.now)
+    → Merges c.merge.new.words x.head c.less_after-less.result x.total x.numbers.now x.bytes.now true true (merged false false 0 (edits_of x.numbers.now) source x.bytes.now)
 grows c source l =
-    let n = c in
-    merges_grow l n.less_after-less.ensures (c.merge.ensures source (merges_shrink l n.less_after-less.ensures)) (below-bytes (over-of n.before.before))
+    merges_grow l c.less_after-less.ensures (c.merge.ensures source (merges_shrink l c.less_after-less.ensures)) (below-bytes (over-of c.before.before))
 
 merge-requires-2 : tie.Need-merge-requires-then-outgrows
 merge-requires-2 c κs =
-    let m = c in
-    record { source = _; merges = grows m.before.before.before _ (start_of (over-of m.before.before.before.before.before)).requires.lists }
+    record { source = _; merges = grows c.before.before.before _ (start_of (over-of c.before.before.before.before.before)).requires.lists }
 
 returns : tie.Need-returns-then-outgrows
 returns c source l =
-    let n = c in
-    let m = n in
-    let less = m.less_after-less.ensures in
-    ends_grow l less (m.merge.ensures source (merges_shrink l less)) (n.merge-then-outgrows.ensures _ (grows m.before.before.before.before.before.before source l))
+    let less = c.less_after-less.ensures in
+    ends_grow l less (c.merge.ensures source (merges_shrink l less)) (c.merge-then-outgrows.ensures _ (grows c.before.before.before.before.before.before source l))
 
 -- one pass
 all-within : (c : tie.After-merge-arg-2-1) (source : List ℕ) → let x = (start_of c.before.before.before).args in
     Lists x.words.now x.head x.size x.total x.numbers.now x.bytes.now source
     → Merges x.words.now x.head x.size x.total x.numbers.now x.bytes.now false true source
 all-within c source l =
-    let n = c in
-    merges_all l (rw (gained-is n.before.before.before) at (n.outgrows.ensures c.if-outgrows.false))
+    merges_all l (rw (gained-is c.before.before.before) at (c.outgrows.ensures c.if-outgrows.false))
 
 merge-requires-3 : tie.Need-merge-requires-2
 merge-requires-3 c κs = record { source = _; merges = all-within c _ (start_of c.before.before.before).requires.lists }
 
 returns_2 : tie.Need-returns
 returns_2 c source l =
-    let n = c in
-    ends_all l (n.merge-2.ensures source (all-within n.before.before.before source l))
+    ends_all l (c.merge-2.ensures source (all-within c.before.before.before source l))
 
 pub merge_all_spec : {M : Type 1} → statement M
 merge_all_spec =

@@ -36,16 +36,14 @@ few b k = omega (arith, b.slice_known-3-1.given k)
 
 merge-all-requires : tie.Need-merge_all-requires
 merge-all-requires c κs =
-    let l = c in
-    let b = base-of l.before.before.before in
-    rw (l.level.ensures, l.inner_head-head.ensures)
+    let b = base-of c.before.before.before in
+    rw (c.level.ensures, c.inner_head-head.ensures)
     (replace_begins (start b).requires (fill-of b).fill-filled.ensures (few b) b.base_of-base.result b.base_of-base.ensures)
 
 merged-is : (m : tie.After-merge_all) → let b = base-of m.before.before.before.before in let x = (start b).args in let head = inner_head sysex8 b.base_of-base.result in
     EndsAll (leveled head (filled-words b) (fill-of b).fill-filled.result) head x.size x.total x.numbers.now x.bytes.now m.merge_all.new.words
 merged-is m =
-    let l = m in
-    rw (l.level.ensures, l.inner_head-head.ensures) at m.merge_all.ensures
+    rw (m.level.ensures, m.inner_head-head.ensures) at m.merge_all.ensures
 
 finish-requires : tie.Need-finish-requires
 finish-requires c κs =
@@ -55,11 +53,10 @@ finish-requires c κs =
 
 returns : tie.Need-returns
 returns c =
-    let m = c in
-    let b = base-of m.before.before.before.before.before.before.before.before.before.before in
+    let b = base-of c.before.before.before.before.before.before.before.before.before.before in
     c.finish.ensures
     ∙ replace_ends (start b).requires (fill-of b).fill-filled.ensures (few b) b.base_of-base.result b.base_of-base.ensures
-    (below_at 256 (start b).args.bytes.now (λ k l. omega (arith, (end_of b).shared_slice_known-2-1.given k))) (end_of b).words_needed-end.ensures (merged-is m.before.before.before.before.before.before)
+    (below_at 256 (start b).args.bytes.now (λ k l. omega (arith, (end_of b).shared_slice_known-2-1.given k))) (end_of b).words_needed-end.ensures (merged-is c.before.before.before.before.before.before)
 
 pub replace_all_spec : {M : Type 1} → statement M
 replace_all_spec =
@@ -70,7 +67,7 @@ replace_all_spec =
     (λ c. omega (arith, inside c.fill-filled.ensures.passed))
     (λ c κs. search rules)
     (λ c κs. omega (arith, c.base_of-base.ensures))
-    (λ c κs. let b = c in let i = inside (fill-of b.before.before).fill-filled.ensures.passed in (omega (arith, c.inner_head-head.ensures, b.base_of-base.ensures), (omega (arith, i), omega (arith, i))))
+    (λ c κs. let i = inside (fill-of c.before.before).fill-filled.ensures.passed in (omega (arith, c.inner_head-head.ensures, c.base_of-base.ensures), (omega (arith, i), omega (arith, i))))
     merge-all-requires
     finish-requires
     (λ c. search rules)

@@ -20,33 +20,26 @@ loop-holds c = let x = c.args in find-start x.store.now x.places.now x.number
 
 returns : tie.Need-returns-then-is_numbered invariant-loop decreases-loop
 returns c =
-    let n = c in
-    let i = n in
-    let l = i in
-    let x = l.args in
-    let numbered = sym n.is_numbered.ensures ∙ c.if-is_numbered.true in
+    let x = c.args in
+    let numbered = sym c.is_numbered.ensures ∙ c.if-is_numbered.true in
     record {
-      inside = test_inside x.store.now x.places.now x.number l.loop-index.index numbered;
+      inside = test_inside x.store.now x.places.now x.number c.loop-index.index numbered;
       is = λ noted.
-          find_here x.store.now x.places.now x.number l.loop-index.index i.loop-index-test.true (noted.begin l.loop-index.index i.loop-index-test.true) numbered
-          ∙ sym (l.loop-index.invariant noted);
-      stands = λ noted. noted.begin l.loop-index.index i.loop-index-test.true;
+          find_here x.store.now x.places.now x.number c.loop-index.index c.loop-index-test.true (noted.begin c.loop-index.index c.loop-index-test.true) numbered
+          ∙ sym (c.loop-index.invariant noted);
+      stands = λ noted. noted.begin c.loop-index.index c.loop-index-test.true;
     }
 
 loop-again : tie.Need-loop-index-preserved invariant-loop decreases-loop
 loop-again c noted =
-    let n = c in
-    let i = n in
-    let l = i in
-    let x = l.args in
-    l.loop-index.invariant noted
-    ∙ find_past x.store.now x.places.now x.number l.loop-index.index i.loop-index-test.true (noted.begin l.loop-index.index i.loop-index-test.true) (sym n.is_numbered.ensures ∙ c.if-is_numbered.false)
+    let x = c.args in
+    c.loop-index.invariant noted
+    ∙ find_past x.store.now x.places.now x.number c.loop-index.index c.loop-index-test.true (noted.begin c.loop-index.index c.loop-index-test.true) (sym c.is_numbered.ensures ∙ c.if-is_numbered.false)
 
 returns_2 : tie.Need-returns invariant-loop decreases-loop
 returns_2 c =
-    let l = c in
-    let x = l.args in
-    record { inside = tt; is = λ noted. find_end x.store.now x.places.now x.number l.loop-index.index c.loop-index-test.false ∙ sym (l.loop-index.invariant noted); stands = λ noted. tt }
+    let x = c.args in
+    record { inside = tt; is = λ noted. find_end x.store.now x.places.now x.number c.loop-index.index c.loop-index-test.false ∙ sym (c.loop-index.invariant noted); stands = λ noted. tt }
 
 pub find_spec : {M : Type 1} → statement M
 find_spec =

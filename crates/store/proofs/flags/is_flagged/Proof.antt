@@ -6,7 +6,7 @@ use Rattle.store.proofs.flags.is_flagged.Statement.{statement}
 use Rattle.store.proofs.flags.is_flagged.Tie as tie
 
 returns : tie.Need-returns-then-number-table
-returns c = let s = c in sym (past_flagged s.args.table.now s.args.number c.if-number-table.true)
+returns c = sym (past_flagged c.args.table.now c.args.number c.if-number-table.true)
 
 pub is_flagged_spec : {M : Type 1} → statement M
 is_flagged_spec = tie.close (tie.spec returns (λ c. search rules) (λ c. search rules) (λ c. search rules) (λ c. search rules))

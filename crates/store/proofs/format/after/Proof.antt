@@ -16,7 +16,7 @@ after_spec =
     (λ c κs. search rules)
     (λ c. after_whole _ _ _ (sym c.is_whole.ensures ∙ c.if-is_whole.true))
     (λ c κs. search rules)
-    (λ c. let w = c in after_delta _ _ _ (sym w.is_whole.ensures ∙ w.if-is_whole.false) (sym c.is_delta.ensures ∙ c.if-is_delta.true))
+    (λ c. after_delta _ _ _ (sym c.is_whole.ensures ∙ c.if-is_whole.false) (sym c.is_delta.ensures ∙ c.if-is_delta.true))
     (λ c.
     let w = c in
     let e = w in

@@ -8,11 +8,8 @@ use Rattle.store.proofs.format.is_allowed.Tie as tie
 
 returns-5 : tie.Need-returns
 returns-5 c =
-    let w = c in
-    let e = w in
-    let d = e in
     c.is_delta.ensures
-    ∙ allow_rest _ _ _ _ (sym w.is_whole.ensures ∙ w.if-is_whole.false) (sym e.is_edit.ensures ∙ e.if-is_edit.false) (sym d.is_data.ensures ∙ d.if-is_data.false)
+    ∙ allow_rest _ _ _ _ (sym c.is_whole.ensures ∙ c.if-is_whole.false) (sym c.is_edit.ensures ∙ c.if-is_edit.false) (sym c.is_data.ensures ∙ c.if-is_data.false)
 
 pub is_allowed_spec : {M : Type 1} → statement M
 is_allowed_spec =
@@ -21,8 +18,8 @@ is_allowed_spec =
     (λ c κs. search rules)
     (λ c. allow_data _ _ _ _ (sym c.is_data.ensures ∙ c.if-is_data.true))
     (λ c κs. search rules)
-    (λ c. let t = c in allow_no_edit _ _ _ _ (sym t.is_edit.ensures ∙ t.if-is_edit.true) (not-true _ c.if-not-follow.true))
-    (λ c. let t = c in allow_edit _ _ _ _ (sym t.is_edit.ensures ∙ t.if-is_edit.true) (not-false _ c.if-not-follow.false))
+    (λ c. allow_no_edit _ _ _ _ (sym c.is_edit.ensures ∙ c.if-is_edit.true) (not-true _ c.if-not-follow.true))
+    (λ c. allow_edit _ _ _ _ (sym c.is_edit.ensures ∙ c.if-is_edit.true) (not-false _ c.if-not-follow.false))
     (λ c κs. search rules)
     (λ c. allow_whole _ _ _ _ (sym c.is_whole.ensures ∙ c.if-is_whole.true))
     (λ c κs. search rules)

@@ -10,20 +10,17 @@ use Rattle.store.proofs.format.is_fit.Tie as tie
 
 returns : tie.Need-returns-then-body_here-body_size
 returns c =
-    let b = c in
-    let x = b.args in
-    fit_short x.store.now x.at x.follow b.body_here.ensures.body (b.body_here.ensures.inside b.requires) c.body_size.ensures.0 c.if-body_here-body_size.true
+    let x = c.args in
+    fit_short x.store.now x.at x.follow c.body_here.ensures.body (c.body_here.ensures.inside c.requires) c.body_size.ensures.0 c.if-body_here-body_size.true
 
 returns_2 : tie.Need-returns
 returns_2 c =
-    let e = c in
-    let b = e in
-    let x = b.args in
+    let x = c.args in
     c.is_allowed.ensures
     ∙ ap (λ (g : ℕ). allowed_by x.follow (get_or x.store.now x.at 0) g c.number_at.result) c.byte.ensures
     ∙ ap (allowed_by x.follow (get_or x.store.now x.at 0) (get_or x.store.now (x.at + 3) 0)) c.number_at.ensures.0
     ∙ allowed_here x.store.now x.at x.follow
-    ∙ sym (fit_whole x.store.now x.at x.follow b.body_here.ensures.body (b.body_here.ensures.inside b.requires) e.body_size.ensures.0 e.if-body_here-body_size.false)
+    ∙ sym (fit_whole x.store.now x.at x.follow c.body_here.ensures.body (c.body_here.ensures.inside c.requires) c.body_size.ensures.0 c.if-body_here-body_size.false)
 
 pub is_fit_spec : {M : Type 1} → statement M
 is_fit_spec =

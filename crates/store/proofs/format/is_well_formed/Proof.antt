@@ -18,19 +18,15 @@ decreases-loop store follow₀ at₀ follow at = length store - at
 
 returns : tie.Need-returns-then-not-is_fit invariant-loop decreases-loop
 returns c =
-    let l = c in
-    form_bad l.args.store.now l.loop-at.at c.loop-at-test.true l.loop-at.follow (sym c.is_fit.ensures ∙ c.if-not-is_fit.true) ∙ sym l.loop-at.invariant
+    form_bad c.args.store.now c.loop-at.at c.loop-at-test.true c.loop-at.follow (sym c.is_fit.ensures ∙ c.if-not-is_fit.true) ∙ sym c.loop-at.invariant
 
 loop-again : tie.Need-loop-at-preserved invariant-loop decreases-loop
 loop-again c =
-    let n = c in
-    let e = n in
-    let l = e in
-    let x = l.args in
-    l.loop-at.invariant
-    ∙ form_past x.store.now l.loop-at.at e.loop-at-test.true l.loop-at.follow (sym e.is_fit.ensures ∙ e.if-not-is_fit.false)
-    (c.after-follow.ensures ∙ ap (follows_by l.loop-at.follow (get_or x.store.now l.loop-at.at 0)) n.number_at.ensures.0 ∙ follows_here x.store.now l.loop-at.at l.loop-at.follow)
-    ∙ ap (λ (k : ℕ). well_formed c.after-follow.result (records_from x.store.now k)) (sym (c.next-at.ensures.is e.loop-at-test.true))
+    let x = c.args in
+    c.loop-at.invariant
+    ∙ form_past x.store.now c.loop-at.at c.loop-at-test.true c.loop-at.follow (sym c.is_fit.ensures ∙ c.if-not-is_fit.false)
+    (c.after-follow.ensures ∙ ap (follows_by c.loop-at.follow (get_or x.store.now c.loop-at.at 0)) c.number_at.ensures.0 ∙ follows_here x.store.now c.loop-at.at c.loop-at.follow)
+    ∙ ap (λ (k : ℕ). well_formed c.after-follow.result (records_from x.store.now k)) (sym (c.next-at.ensures.is c.loop-at-test.true))
 
 returns_2 : tie.Need-returns invariant-loop decreases-loop
 returns_2 c = form_end c.args.store.now c.loop-at.at c.loop-at.follow c.loop-at-test.false ∙ sym c.loop-at.invariant
@@ -49,6 +45,6 @@ is_well_formed_spec =
     (λ c κs. search rules)
     (λ c κs. search rules)
     (λ c κs. search rules)
-    (λ c. let i = c in omega (arith, i.loop-at-test.true, (c.next-at.ensures.on i.loop-at-test.true).0))
+    (λ c. omega (arith, c.loop-at-test.true, (c.next-at.ensures.on c.loop-at-test.true).0))
     loop-again
     returns_2)

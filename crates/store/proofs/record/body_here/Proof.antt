@@ -14,16 +14,14 @@ returns c =
 
 returns_2 : tie.Need-returns-then-left-size
 returns_2 c =
-    let b = c in
-    let x = b.args in
-    let q = b.body_size-size.ensures.0 in
+    let x = c.args in
+    let q = c.body_size-size.ensures.0 in
     record { body = body_short x.store.now x.at (length x.store.now - x.at - 1) (omega arith) (omega (arith, q)); inside = λ h. omega arith }
 
 returns-3 : tie.Need-returns
 returns-3 c =
-    let b = c in
-    let x = b.args in
-    record { body = body_whole x.store.now x.at b.body_size-size.ensures.0; inside = λ h. omega arith }
+    let x = c.args in
+    record { body = body_whole x.store.now x.at c.body_size-size.ensures.0; inside = λ h. omega arith }
 
 pub body_here_spec : {M : Type 1} → statement M
 body_here_spec =

@@ -5,7 +5,7 @@ use mathlib.Core.List.{List, []}
 use Prim.Native.Nat.{ℕ}
 use Rattle.refusal.specs.Answer.{Answer, gives, refused, Verdict}
 use Rattle.refusal.specs.Number.{Named, named}
-use Rattle.refusal.specs.Tight.{lent}
+use Rattle.refusal.specs.Tight.{lent, lent_mut}
 use Rattle.store.specs.Store.{check_store}
 use Rattle.store.proofs.Checks.{check_named}
 use Rattle.chain.specs.Restore.{restore, Description, describe}
@@ -46,9 +46,9 @@ promised =
           sym d.answer_is ∙ ap dump_read (rw (g.0, g.1) at d.promise) ∙ dump-read (describe store n) (describe_named store n);
       can_restore = λ {store = store} {n} {words} {answer} {left} e. record {
         lifetimes = ([], ([], tt));
-        arguments = (lent store, (n, (lent words, tt)));
+        arguments = (lent store, (n, (lent_mut words, tt)));
         said = number_answer answer;
-        exit = (lent store, (n, (lent left, tt)));
+        exit = (lent store, (n, (lent_mut left, tt)));
         promise = sym (ap (leaving number_answer) e);
         given = (refl, refl, refl);
         answer_is = number_read_lem answer (rw (ap (λ (o : Answer ℕ × List ℕ). o.0) e) at (restore_named store n words));
@@ -100,9 +100,9 @@ changed =
       };
       can_mark = λ {store = store} {n} {verdict} {left} e. record {
         lifetimes = ([], tt);
-        arguments = (lent store, (n, tt));
+        arguments = (lent_mut store, (n, tt));
         said = done_answer verdict;
-        exit = (lent left, (n, tt));
+        exit = (lent_mut left, (n, tt));
         promise = sym (ap (leaving done_answer) e);
         given = (refl, refl);
         answer_is = done-read verdict (rw (ap (λ (o : Verdict × List ℕ). o.0) e) at (mark_named store n));
@@ -110,9 +110,9 @@ changed =
       };
       can_collect = λ {store = store} {answer} {left} e. record {
         lifetimes = ([], tt);
-        arguments = (lent store, tt);
+        arguments = (lent_mut store, tt);
         said = number_answer answer;
-        exit = (lent left, tt);
+        exit = (lent_mut left, tt);
         promise = sym (ap (leaving number_answer) e);
         given = refl;
         answer_is = number_read_lem answer (rw (ap (λ (o : Answer ℕ × List ℕ). o.0) e) at (collect_named store));

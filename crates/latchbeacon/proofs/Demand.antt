@@ -7,7 +7,7 @@ use lib.Dec.{lit<}
 use borrow.Author.Tests.{ne_eqb}
 use Rattle.refusal.specs.Answer.{Answer, gives, refused, Verdict, map_answer}
 use Rattle.refusal.specs.Number.{number_of, Named, accepted, named}
-use Rattle.refusal.specs.Tight.{lent}
+use Rattle.refusal.specs.Tight.{lent, lent_mut}
 use Rattle.refusal.specs.declared.Refusal.{Refusal}
 use Rattle.refusal.proofs.Laws.{number_some}
 use Rattle.ump.specs.Packet.{sysex8}
@@ -71,9 +71,9 @@ answers =
     record {
       can_splice = λ {words = words} {left} {len} {edit} {bytes} {change} b e. record {
         lifetimes = ([], ([], tt));
-        arguments = (lent words, (len, (edit.from, (edit.to, (lent bytes, tt)))));
+        arguments = (lent_mut words, (len, (edit.from, (edit.to, (lent bytes, tt)))));
         said = change_answer (gives change);
-        exit = (lent left, (len, (edit.from, (edit.to, (lent bytes, tt)))));
+        exit = (lent_mut left, (len, (edit.from, (edit.to, (lent bytes, tt)))));
         promise = sym (ap (leaving change_answer) e);
         given = (refl, refl, refl, refl, refl);
         answer_is = refl;
@@ -121,9 +121,9 @@ promised =
       answers = answers;
       can_repack = λ {words = words} {left} {len} {new} e. record {
         lifetimes = ([], tt);
-        arguments = (lent words, (len, tt));
+        arguments = (lent_mut words, (len, tt));
         said = number_answer (gives new);
-        exit = (lent left, (len, tt));
+        exit = (lent_mut left, (len, tt));
         promise = sym (ap (leaving number_answer) e);
         given = (refl, refl);
         answer_is = refl;
@@ -131,9 +131,9 @@ promised =
       };
       can_at_once = λ {words = words} {left} {len} {numbers} {bytes} {change} b e. record {
         lifetimes = ([], ([], ([], tt)));
-        arguments = (lent words, (len, (lent numbers, (lent bytes, tt))));
+        arguments = (lent_mut words, (len, (lent numbers, (lent bytes, tt))));
         said = change_answer (gives change);
-        exit = (lent left, (len, (lent numbers, (lent bytes, tt))));
+        exit = (lent_mut left, (len, (lent numbers, (lent bytes, tt))));
         promise = sym (ap (leaving change_answer) e);
         given = (refl, refl, refl, refl);
         answer_is = refl;

@@ -6,7 +6,7 @@ use Prim.Native.Nat.{ℕ, ◌+◌, ◌≤◌, ◌<◌}
 use lib.ListN.{length}
 use Rattle.refusal.specs.Answer.{Answer, gives, refused}
 use Rattle.refusal.specs.Number.{Named, named}
-use Rattle.refusal.specs.Tight.{Called, lent}
+use Rattle.refusal.specs.Tight.{Called, lent, lent_mut}
 use Rattle.ump.specs.Word.{Below}
 use Rattle.ump.specs.Packet.{sysex8}
 use Rattle.ump.specs.Packing.{words_for}
@@ -55,9 +55,9 @@ promised =
           let outcome = receive table words port packet output in
           record {
             lifetimes = ([], ([], ([], ([], tt))));
-            arguments = (lent table, (lent words, (port, (lent packet, (lent output, tt)))));
+            arguments = (lent_mut table, (lent_mut words, (port, (lent packet, (lent_mut output, tt)))));
             said = received_answer outcome.0;
-            exit = (lent outcome.1.0, (lent outcome.1.1, (port, (lent packet, (lent outcome.1.2, tt)))));
+            exit = (lent_mut outcome.1.0, (lent_mut outcome.1.1, (port, (lent packet, (lent_mut outcome.1.2, tt)))));
             promise = refl;
             given = (refl, refl, refl, refl, refl);
             answer_is = received-read outcome.0 (receive_named table words port packet output);
@@ -67,9 +67,9 @@ promised =
       can_clear = λ table whole.
           record {
             lifetimes = ([], tt);
-            arguments = (lent table, tt);
+            arguments = (lent_mut table, tt);
             said = tt;
-            exit = (lent empty_table, tt);
+            exit = (lent_mut empty_table, tt);
             promise = refl;
             given = refl;
             answer_is = refl;

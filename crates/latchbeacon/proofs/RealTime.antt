@@ -2,7 +2,7 @@
 use mathlib.Core.Path.{refl, sym, ap}
 use mathlib.Core.List.{[]}
 use Rattle.refusal.specs.Answer.{gives}
-use Rattle.refusal.specs.Tight.{lent}
+use Rattle.refusal.specs.Tight.{lent, lent_mut}
 use Rattle.ump.specs.Stream.{to_sysex7}
 use Rattle.ump.specs.RealTime.{PassesOver, PromisedWriter}
 use Rattle.ump.proofs.Named.{stream_named}
@@ -21,9 +21,9 @@ promised =
           (number_read_lem _ (stream_named bytes group words));
       can_answer = λ bytes group words n left e. record {
         lifetimes = ([], ([], tt));
-        arguments = (lent bytes, (group, (lent words, tt)));
+        arguments = (lent bytes, (group, (lent_mut words, tt)));
         said = number_answer (gives n);
-        exit = (lent bytes, (group, (lent left, tt)));
+        exit = (lent bytes, (group, (lent_mut left, tt)));
         promise = sym (ap (leaving number_answer) e);
         given = (refl, refl, refl);
         answer_is = refl;

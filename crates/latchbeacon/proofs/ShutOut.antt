@@ -1,7 +1,7 @@
 -- Wrong structs that the promises shut out, two of each kind of struct, each on a concrete input. What else is wrong is shut out by the
 -- promise of the wrapped call, of which an exported call answers the struct. Assumes nothing.
-use mathlib.Core.Path.{◌≡◌, sym, ap, ◌∙◌}
-use mathlib.Core.Bool.{true, false, not, cond}
+use mathlib.Core.Path.{◌≡◌, refl, sym, ap, ◌∙◌}
+use mathlib.Core.Bool.{Bool, true, false, not, cond}
 use mathlib.Core.List.{List, [], ◌∷◌, ◌++◌}
 use Prim.Native.Nat.{ℕ, ◌+◌, ◌*◌}
 use lib.Dec.{T, eqb}
@@ -33,6 +33,7 @@ use Rattle.store.specs.Samples as store
 use Rattle.chain.specs.Restore.{roomed, outside, rebuilt, restored, sizes, described, describe}
 use Rattle.reclaim.specs.Reclaim.{bytes_in, marked_kind, marked_in, mark, wanted_in, walked, reaches, kept_in, collected, collect}
 use Rattle.reclaim.specs.Samples.{gone, one_gone}
+use Rattle.answers.specs.Answers.{dump_answer}
 use Rattle.answers.specs.declared.NumberAnswer.{NumberAnswer}
 use Rattle.answers.specs.declared.PacketAnswer.{PacketAnswer}
 use Rattle.answers.specs.declared.MessageAnswer.{MessageAnswer}
@@ -245,19 +246,29 @@ read_on κs a x s w p = differ (λ (r : ReadAnswer). cond r.ended 1 0) tt (rw (w
 abbrev shortened : List ℕ
 shortened = 0x01 ∷ 0 ∷ 1 ∷ 2 ∷ 7 ∷ 0x8D ∷ (replicate 13 0x41 ++ (0x81 ∷ 0x42 ∷ (store.bare 2 1 ++ store.edit 0 2)))
 
+-- what is answered there
+dump_words_other : eqb 4 (dump_answer (describe shortened 2)).words ≡ false
+unfolding is_data body_size records_after follows_by allowed_by well_formed data_in patches_in dump_of dumps_in twice sound held roomed outside rebuilt restored sizes described describe replaced joined packets_for
+dump_words_other = refl
+
+dump_base_other : eqb 1 (dump_answer (describe (store.bare 1 1) 1)).base ≡ false
+unfolding is_data body_size records_after follows_by allowed_by well_formed data_in patches_in dump_of dumps_in twice sound held roomed outside rebuilt restored sizes described describe replaced joined packets_for
+dump_base_other = refl
+
+other : {b : Bool} → b ≡ false → T (not b)
+other e = rw e tt
+
 -- the words are those that its base needs, and not its own alone
 dump_words : ShutOut 1 describe-kinds.ps describe-kinds.r describe-promise.Post
     (λ κs a x s. (a.0.now ≡ shortened) × (a.1.0 ≡ 2)
     × (x ≡ record { refusal = 0; place = 0; delta = true; group = 2; id = 7; base = 1; size = 12; words = 4; steps = 1 }))
-unfolding is_data body_size records_after follows_by allowed_by well_formed data_in patches_in dump_of dumps_in twice sound held roomed outside rebuilt restored sizes described describe replaced joined packets_for
-dump_words κs a x s w p = differ (λ (r : DumpAnswer). r.words) tt (rw (w.0, w.1, w.2) at p)
+dump_words κs a x s w p = differ (λ (r : DumpAnswer). r.words) (other dump_words_other) (rw (w.0, w.1, w.2) at p)
 
 -- a refused dump has no base
 dump_base : ShutOut 1 describe-kinds.ps describe-kinds.r describe-promise.Post
     (λ κs a x s. (a.0.now ≡ store.bare 1 1) × (a.1.0 ≡ 1)
     × (x ≡ record { refusal = 25; place = 0; delta = false; group = 0; id = 0; base = 1; size = 0; words = 0; steps = 0 }))
-unfolding is_data body_size records_after follows_by allowed_by well_formed data_in patches_in dump_of dumps_in twice sound held roomed outside rebuilt restored sizes described describe replaced joined packets_for
-dump_base κs a x s w p = differ (λ (r : DumpAnswer). r.base) tt (rw (w.0, w.1, w.2) at p)
+dump_base κs a x s w p = differ (λ (r : DumpAnswer). r.base) (other dump_base_other) (rw (w.0, w.1, w.2) at p)
 
 -- ---- a store: dump 1; an unwanted delta 2 before it
 

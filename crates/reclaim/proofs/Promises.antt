@@ -3,7 +3,7 @@ use mathlib.Core.Path.{refl, sym, ap, ◌∙◌}
 use mathlib.Core.List.{List, []}
 use Prim.Native.Nat.{ℕ}
 use Rattle.refusal.specs.Answer.{Answer, Verdict}
-use Rattle.refusal.specs.Tight.{lent}
+use Rattle.refusal.specs.Tight.{lent, lent_mut}
 use Rattle.store.proofs.Checks.{check_named}
 use Rattle.store.proofs.Unique.{checked_back, checked_meant}
 use Rattle.restore.proofs.Calls.{Restores, Describes}
@@ -36,9 +36,9 @@ promised =
           let meant = marked_meant verdict (rw (ap (λ (o : Verdict × List ℕ). o.0) e) at (mark_named store n)) in
           record {
             lifetimes = ([], tt);
-            arguments = (lent store, (n, tt));
+            arguments = (lent_mut store, (n, tt));
             said = marked_back verdict;
-            exit = (lent left, (n, tt));
+            exit = (lent_mut left, (n, tt));
             promise = ap (λ (a : Verdict). (a, left)) meant ∙ sym e;
             given = (refl, refl);
             answer_is = meant;
@@ -48,9 +48,9 @@ promised =
           let meant = collected_meant answer (rw (ap (λ (o : Answer ℕ × List ℕ). o.0) e) at (collect_named store)) in
           record {
             lifetimes = ([], tt);
-            arguments = (lent store, tt);
+            arguments = (lent_mut store, tt);
             said = collected_back answer;
-            exit = (lent left, tt);
+            exit = (lent_mut left, tt);
             promise = ap (λ (a : Answer ℕ). (a, left)) meant ∙ sym e;
             given = refl;
             answer_is = meant;

@@ -7,7 +7,6 @@ use Rattle.refusal.specs.Answer.{Answer, gives, refused, Verdict}
 use Rattle.store.specs.Store.{check_store}
 use Rattle.chain.specs.Restore.{restore, describe}
 use Rattle.chain.specs.Chained.{Restorer, Describer}
-use Rattle.restore.proofs.Chains as chain
 use Rattle.restore.proofs.Chains.{alike}
 use Rattle.reclaim.specs.Reclaim.{mark, collected, collect}
 use Rattle.reclaim.specs.Reclaimed.{Checker, Marker, Collector, Reclaimed, PromisedStore}

@@ -1,6 +1,6 @@
 -- Wrong outcomes of `mark` and `collect` that their promises shut out, each on a concrete store. Assumes nothing.
 use mathlib.Core.Path.{◌≡◌, ap}
-use mathlib.Core.List.{List, ◌∷◌, ◌++◌}
+use mathlib.Core.List.{List, ◌++◌}
 use Prim.Native.Nat.{ℕ}
 use lib.ListN.{get_or}
 use Rattle.refusal.specs.declared.Fault.{Fault}

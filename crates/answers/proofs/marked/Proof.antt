@@ -1,0 +1,18 @@
+-- `answers::marked`: the struct of each case. Assumes nothing.
+use borrow.Author.Rules.{rules}
+use Rattle.answers.proofs.Laws.{of_case}
+use Rattle.reclaim.specs.Meaning.{marked_meaning}
+use Rattle.answers.specs.Answers.{done_answer}
+use Rattle.answers.proofs.marked.Statement.{statement}
+use Rattle.answers.proofs.marked.Tie as tie
+
+returns : tie.Need-returns-in-Done
+returns c =
+    of_case (λ a. done_answer (marked_meaning a)) c.in-Done.is c.given.ensures
+
+returns_2 : tie.Need-returns-in-Refused
+returns_2 c =
+    of_case (λ a. done_answer (marked_meaning a)) c.in-Refused.is c.refused.ensures
+
+pub marked_spec : {M : Type 1} → statement M
+marked_spec = tie.close (tie.spec (λ c. search rules) (λ c κs. search rules) (λ c. search rules) (λ c κs. search rules) returns returns_2)

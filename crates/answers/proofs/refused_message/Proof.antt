@@ -1,0 +1,11 @@
+-- `answers::refused_message`: the refusal's number. Assumes nothing.
+use borrow.Author.Rules.{rules}
+use mathlib.Core.Path.{refl}
+use Rattle.answers.proofs.refused_message.Statement.{statement}
+use Rattle.answers.proofs.refused_message.Tie as tie
+
+returns : tie.Need-returns
+returns c = rw c.number.ensures refl
+
+pub refused_message_spec : {M : Type 1} → statement M
+refused_message_spec = tie.close (tie.spec (λ c κs. search rules) returns)

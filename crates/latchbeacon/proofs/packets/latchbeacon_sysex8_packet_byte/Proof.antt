@@ -1,0 +1,12 @@
+-- `latchbeacon::packets::latchbeacon_sysex8_packet_byte`: what the wrapped call promises. Assumes nothing.
+use borrow.Author.Rules.{rules}
+use Rattle.answers.specs.Answers.{number_answer}
+use Rattle.latchbeacon.proofs.Laws.{told}
+use Rattle.latchbeacon.proofs.packets.latchbeacon_sysex8_packet_byte.Statement.{statement}
+use Rattle.latchbeacon.proofs.packets.latchbeacon_sysex8_packet_byte.Tie as tie
+
+returns : tie.Need-returns
+returns c = told number_answer c.byte-2.ensures c.byte.ensures
+
+pub latchbeacon_sysex8_packet_byte_spec : {M : Type 1} → statement M
+latchbeacon_sysex8_packet_byte_spec = tie.close (tie.spec (λ c κs. search rules) (λ c κs. search rules) returns)

@@ -7,8 +7,8 @@ pub mod many;
 use equality::words::same_words;
 use ports::Received;
 
-// The table, the words and the output; how many of the words and of the output are lent; the last answer; whether all answers and all
-// words so far were as expected.
+// The table, the words and the output; how many of the words and of the output are lent; whether all answers and all words so far were as
+// expected.
 #[derive(Drop)]
 pub struct Desk {
     pub table: [u32; 32],
@@ -16,7 +16,6 @@ pub struct Desk {
     pub output: [u32; 16],
     pub lent: usize,
     pub room: usize,
-    pub received: Received,
     pub right: bool,
 }
 
@@ -30,7 +29,6 @@ pub fn new() -> Desk {
         output: [9; 16],
         lent: 128,
         room: 16,
-        received: Received::Kept,
         right: true,
     }
 }
@@ -68,41 +66,29 @@ fn lend(
     ports::receive(table, &mut words[..lent], port, packet, &mut output[..room])
 }
 
-// One call with this packet.
-fn call(desk: Desk, port: u8, packet: &[u32]) -> Desk {
-    let mut table = desk.table;
-    let mut words = desk.words;
-    let mut output = desk.output;
-    let lent = desk.lent;
-    let room = desk.room;
+// One call with this packet: its answer, and what is left on the desk.
+fn call(desk: &Desk, port: u8, packet: &[u32]) -> (Received, Desk) {
+    let mut after = Desk { ..*desk };
     let received = lend(
-        &mut table,
-        &mut words,
-        lent,
+        &mut after.table,
+        &mut after.words,
+        desk.lent,
         port,
         packet,
-        &mut output,
-        room,
+        &mut after.output,
+        desk.room,
     );
-    Desk {
-        table,
-        words,
-        output,
-        lent,
-        room,
-        received,
-        right: desk.right,
-    }
+    (received, after)
 }
 
 // The output is this one.
-fn has_output(desk: Desk, expected: [u32; 16]) -> bool {
+fn has_output(desk: &Desk, expected: [u32; 16]) -> bool {
     let output = desk.output;
     same_words(&output, &expected)
 }
 
 // Nothing that is lent has changed.
-fn has_stayed(desk: Desk, before: Desk) -> bool {
+fn has_stayed(desk: &Desk, before: &Desk) -> bool {
     let table = desk.table;
     let table_before = before.table;
     if !same_words(&table, &table_before) {
@@ -128,13 +114,12 @@ fn judged(desk: Desk, right: bool) -> Desk {
 
 // The packet is kept, and the output stays.
 pub fn keep_words(desk: Desk, port: u8, packet: &[u32]) -> Desk {
-    let after = call(desk, port, packet);
-    let received = after.received;
-    let output = desk.output;
-    match received {
-        Received::Kept => judged(after, has_output(after, output)),
-        _ => judged(after, false),
-    }
+    let (received, after) = call(&desk, port, packet);
+    let right = match received {
+        Received::Kept => has_output(&after, desk.output),
+        _ => false,
+    };
+    judged(after, right)
 }
 
 // The same of the packet with this first word.
@@ -144,15 +129,14 @@ pub fn keep(desk: Desk, port: u8, head: u32) -> Desk {
 
 // The packet is refused with this number, and nothing changes.
 pub fn refuse_words(desk: Desk, port: u8, packet: &[u32], number: u8) -> Desk {
-    let after = call(desk, port, packet);
-    let received = after.received;
-    let Received::Refused(fault) = received else {
-        return judged(after, false);
+    let (received, after) = call(&desk, port, packet);
+    let right = match received {
+        Received::Refused(fault) => {
+            compare::is_fault(fault, number, 0) && has_stayed(&after, &desk)
+        }
+        _ => false,
     };
-    if !compare::is_fault(fault, number, 0) {
-        return judged(after, false);
-    }
-    judged(after, has_stayed(after, desk))
+    judged(after, right)
 }
 
 // The same of the packet with this first word.
@@ -162,13 +146,12 @@ pub fn refuse(desk: Desk, port: u8, head: u32, number: u8) -> Desk {
 
 // The stream of the packet with this first word is dropped, and the output stays.
 pub fn drop_stream(desk: Desk, port: u8, head: u32) -> Desk {
-    let after = call(desk, port, &packet(head));
-    let received = after.received;
-    let output = desk.output;
-    match received {
-        Received::Dropped => judged(after, has_output(after, output)),
-        _ => judged(after, false),
-    }
+    let (received, after) = call(&desk, port, &packet(head));
+    let right = match received {
+        Received::Dropped => has_output(&after, desk.output),
+        _ => false,
+    };
+    judged(after, right)
 }
 
 // An output with the packet with this first word at an index.
@@ -186,15 +169,12 @@ fn paste(output: [u32; 16], at: usize, head: u32) -> [u32; 16] {
 
 // The packet hands out so many words, and the output is this one after the call.
 pub fn hand_out(desk: Desk, port: u8, packet: &[u32], count: usize, expected: [u32; 16]) -> Desk {
-    let after = call(desk, port, packet);
-    let received = after.received;
-    let Received::HandedOut(found) = received else {
-        return judged(after, false);
+    let (received, after) = call(&desk, port, packet);
+    let right = match received {
+        Received::HandedOut(found) => found == count && has_output(&after, expected),
+        _ => false,
     };
-    if found != count {
-        return judged(after, false);
-    }
-    judged(after, has_output(after, expected))
+    judged(after, right)
 }
 
 // The packet with this first word is handed out alone.

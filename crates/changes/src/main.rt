@@ -3,26 +3,29 @@
 #![tactic(auto)]
 
 use compare::report;
+use std::io;
 
 mod edits;
 mod packings;
 mod refusals;
 
 // Writes a line for each sample.
-fn main() {
-    report(b"P3", packings::p3());
-    report(b"P4", packings::p4());
-    report(b"P5", packings::p5());
-    report(b"P6", packings::p6());
-    report(b"P7", packings::p7());
-    report(b"P8", edits::p8());
-    report(b"P9", edits::p9());
+fn main(rt: HostRuntime) -> io::Result<()> {
+    report(&rt, b"P3", packings::p3())?;
+    report(&rt, b"P4", packings::p4())?;
+    report(&rt, b"P5", packings::p5())?;
+    report(&rt, b"P6", packings::p6())?;
+    report(&rt, b"P7", packings::p7())?;
+    report(&rt, b"P8", edits::p8())?;
+    report(&rt, b"P9", edits::p9())?;
     report(
+        &rt,
         b"words for 0, 13, 14, 26, 27 bytes",
         packings::words_needed(),
-    );
-    report(b"53,248 and 53,249 bytes", packings::most_bytes());
-    report(b"packing what is packed", packings::packed());
-    refusals::packing();
-    refusals::splicing();
+    )?;
+    report(&rt, b"53,248 and 53,249 bytes", packings::most_bytes())?;
+    report(&rt, b"packing what is packed", packings::packed())?;
+    refusals::packing(&rt)?;
+    refusals::splicing(&rt)?;
+    Ok(())
 }

@@ -2,6 +2,7 @@
 use compare::{is_fault, report};
 use equality::words::same_words;
 use splice::sysex8::{Repacked, Spliced};
+use std::io;
 
 // The first word of an empty start packet.
 const START: u32 = 0x5011_0900;
@@ -43,25 +44,44 @@ fn long() -> bool {
 }
 
 // Packing refuses what the check refuses, 1 to 12.
-pub(crate) fn packing() {
-    report(b"packing: 1", long());
-    report(b"packing: 2", refused(START, CONTINUE, END, 13, 2, 0));
-    report(b"packing: 3", refused(START, CONTINUE, END, 3, 3, 0));
-    report(b"packing: 4", refused(START, CONTINUE, END, 10, 4, 0));
-    report(b"packing: 5", refused(START, 0x4021_0900, END, 12, 5, 4));
-    report(b"packing: 6", refused(START, CONTINUE, END, 4, 6, 0));
-    report(b"packing: 7", refused(CONTINUE, CONTINUE, END, 12, 7, 0));
-    report(b"packing: 8", refused(START, END, END, 12, 8, 4));
-    report(b"packing: 9", refused(START, CONTINUE, CONTINUE, 12, 9, 8));
+pub(crate) fn packing(rt: &impl Print) -> io::Result<()> {
+    report(rt, b"packing: 1", long())?;
+    report(rt, b"packing: 2", refused(START, CONTINUE, END, 13, 2, 0))?;
+    report(rt, b"packing: 3", refused(START, CONTINUE, END, 3, 3, 0))?;
+    report(rt, b"packing: 4", refused(START, CONTINUE, END, 10, 4, 0))?;
     report(
+        rt,
+        b"packing: 5",
+        refused(START, 0x4021_0900, END, 12, 5, 4),
+    )?;
+    report(rt, b"packing: 6", refused(START, CONTINUE, END, 4, 6, 0))?;
+    report(
+        rt,
+        b"packing: 7",
+        refused(CONTINUE, CONTINUE, END, 12, 7, 0),
+    )?;
+    report(rt, b"packing: 8", refused(START, END, END, 12, 8, 4))?;
+    report(
+        rt,
+        b"packing: 9",
+        refused(START, CONTINUE, CONTINUE, 12, 9, 8),
+    )?;
+    report(
+        rt,
         b"packing: 10",
         refused(START, CONTINUE, 0x503F_0900, 12, 10, 8),
-    );
-    report(b"packing: 11", refused(START, 0x5121_0900, END, 12, 11, 4));
+    )?;
     report(
+        rt,
+        b"packing: 11",
+        refused(START, 0x5121_0900, END, 12, 11, 4),
+    )?;
+    report(
+        rt,
         b"packing: 12",
         refused(START, CONTINUE, 0x5031_0800, 12, 12, 8),
-    );
+    )?;
+    Ok(())
 }
 
 // A splice is refused with this number and place 0.
@@ -93,12 +113,18 @@ fn setting_keeps() -> bool {
 }
 
 // After the check a splice refuses 13, then 14; setting the payload 14 alone.
-pub(crate) fn splicing() {
-    report(b"splice: 13, reversed, before 14", splice_keeps(2, 1, 13));
+pub(crate) fn splicing(rt: &impl Print) -> io::Result<()> {
     report(
+        rt,
+        b"splice: 13, reversed, before 14",
+        splice_keeps(2, 1, 13),
+    )?;
+    report(
+        rt,
         b"splice: 13, past the end, before 14",
         splice_keeps(1, 3, 13),
-    );
-    report(b"splice: 14", splice_keeps(1, 2, 14));
-    report(b"setting the payload: 14", setting_keeps());
+    )?;
+    report(rt, b"splice: 14", splice_keeps(1, 2, 14))?;
+    report(rt, b"setting the payload: 14", setting_keeps())?;
+    Ok(())
 }

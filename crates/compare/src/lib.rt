@@ -15,11 +15,11 @@ ghost use Rattle.listing.specs.Steps.{handed};
 ghost use Rattle.equality.specs.Tells.{Tells, Begins};
 ghost use Rattle.compare.specs.Facts.{code_of, Says, Reads, Hands};
 
-use libc::STDOUT_FILENO;
 use listing::Listed;
 use message::sysex8::{Checked, Copied};
 use packet::{Earlier, Kind};
 use refusal::{ByteRead, Fault};
+use std::io;
 
 // P5's message.
 pub const MESSAGE: [u32; 12] = [
@@ -38,12 +38,12 @@ pub const MESSAGE: [u32; 12] = [
 ];
 
 // Writes the line of a sample.
-pub fn report(name: &[u8], right: bool) {
-    io::write_all(STDOUT_FILENO, name);
+pub fn report(rt: &impl Print, name: &[u8], right: bool) -> io::Result<()> {
+    rt.write_all(name)?;
     if right {
-        io::write_all(STDOUT_FILENO, b" ok\n");
+        rt.write_all(b" ok\n")
     } else {
-        io::write_all(STDOUT_FILENO, b" WRONG\n");
+        rt.write_all(b" WRONG\n")
     }
 }
 

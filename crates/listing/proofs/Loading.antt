@@ -7,7 +7,7 @@ use native.Mathlib.Omega.{arith}
 use borrow.Author.Tests.{lt-ltb, le-ltb, eq-eqb, ne_eqb}
 use lib.Dec.{eqb, ltb}
 use lib.ListN.{length, drop, length-append}
-use Rattle.refusal.specs.Answer.{Answer, gives, refused, Verdict, pass, ◌▷◌, guard, writes}
+use Rattle.refusal.specs.Answer.{Answer, gives, refused, Verdict, ◌▷◌, guard, writes}
 use Rattle.refusal.proofs.Laws.{never_both, never_refused, given_passes}
 use Rattle.ump.specs.Word.{words_of}
 use Rattle.ump.specs.Packet.{sysex8}

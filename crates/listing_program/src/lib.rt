@@ -1,34 +1,39 @@
 // The body of program sx8list: the message on standard input is listed on standard output.
 #![tactic(auto)]
 
-use libc::STDOUT_FILENO;
 use listing::Listed;
 use standard_input::Input;
+use std::io;
 
-// Writes the listing of the message in these bytes to standard output, at once; answers whether all of it was written.
-fn write_listing(bytes: &[u8], text: &mut [u8]) -> bool {
+// Writes the listing of the message in these bytes to standard output, at once. The error says why not all of it was written.
+fn write_listing(rt: &impl Print, bytes: &[u8], text: &mut [u8]) -> io::Result<()> {
     let listed = listing::list(bytes, text);
     let Listed::Text(size) = listed else {
-        return false;
+        return Err(io::Error::other("no room for the listing"));
     };
-    io::write_all(STDOUT_FILENO, &text[..size])
+    rt.write_all(&text[..size])
 }
 
 // Lists the message on standard input; a failed read or write is told on standard error.
-fn list_input(bytes: &mut [u8], text: &mut [u8]) {
-    let input = standard_input::read_input(bytes);
-    let Input::Bytes(size) = input else {
-        os::fail(b"sx8list: read");
-        return;
+fn list_input(
+    rt: &(impl io::Input + Print + Eprint),
+    bytes: &mut [u8],
+    text: &mut [u8],
+) -> io::Result<()> {
+    let size = match standard_input::read_input(rt, bytes) {
+        Input::Bytes(size) => size,
+        Input::Failed(error) => return eprintln!(rt; "sx8list: read: {error}"),
     };
-    if !write_listing(&bytes[..size], text) {
-        os::fail(b"sx8list: write");
+    match write_listing(rt, &bytes[..size], text) {
+        Ok(()) => Ok(()),
+        Err(error) => eprintln!(rt; "sx8list: write: {error}"),
     }
 }
 
 // The program: room for one byte over 65,536, which is enough to refuse a longer input, and for the longest listing.
-pub fn run() {
+// An error says that standard error could not be written.
+pub fn run(rt: &(impl io::Input + Print + Eprint)) -> io::Result<()> {
     let mut bytes = [0u8; 65537];
     let mut text = [0u8; listing::TEXT];
-    list_input(&mut bytes, &mut text);
+    list_input(rt, &mut bytes, &mut text)
 }

@@ -3,20 +3,22 @@
 #![tactic(auto)]
 
 use compare::report;
+use std::io;
 
 mod dumps;
 mod lists;
 mod messages;
 
 // Writes a line for each sample.
-fn main() {
-    report(b"a list", lists::each());
-    report(b"no edits", lists::no_edits());
-    report(b"two edits at one place", lists::one_place());
-    report(b"refused lists", lists::refused());
-    report(b"P9 in its message", messages::each());
-    report(b"refused messages", messages::refused());
-    report(b"a whole dump and deltas", dumps::each());
-    report(b"refused dumps", dumps::refused());
-    report(b"refused stores", dumps::unsound());
+fn main(rt: HostRuntime) -> io::Result<()> {
+    report(&rt, b"a list", lists::each())?;
+    report(&rt, b"no edits", lists::no_edits())?;
+    report(&rt, b"two edits at one place", lists::one_place())?;
+    report(&rt, b"refused lists", lists::refused())?;
+    report(&rt, b"P9 in its message", messages::each())?;
+    report(&rt, b"refused messages", messages::refused())?;
+    report(&rt, b"a whole dump and deltas", dumps::each())?;
+    report(&rt, b"refused dumps", dumps::refused())?;
+    report(&rt, b"refused stores", dumps::unsound())?;
+    Ok(())
 }

@@ -3,20 +3,20 @@ ghost use Rattle.std.specs.Prelude.{◌≤◌};
 
 use crate::record::{Compared, Replayed};
 use crate::{record, tally};
-use libc::STDIN_FILENO;
+use std::io;
+use std::io::Read;
 
 // The most reads: an input of so many bytes ends even where each read brings one.
 const READS: usize = 4_194_304;
 
 // Reads once into the buffer behind what it keeps; answers how many bytes it then holds: as many as before at the input's end,
-// and where the read fails or the buffer is full.
-fn fill(buffer: &mut [u8], kept: usize) -> usize {
+// and where the buffer is full.
+fn fill(reader: &mut impl Read, buffer: &mut [u8], kept: usize) -> io::Result<usize> {
     if kept >= buffer.len() {
-        return kept;
+        return Ok(kept);
     }
-    let got = libc::read(STDIN_FILENO, &mut buffer[kept..]);
-    let more = io::count(got, &buffer[kept..]);
-    kept + more
+    let more = reader.read(&mut buffer[kept..])?;
+    Ok(kept + more)
 }
 
 // Moves the bytes from a place up to another to the front; answers how many they are.
@@ -62,80 +62,92 @@ fn count_listed(listed: bool, counts: &mut [usize]) {
 }
 
 // Counts an answer that differs, and writes the line's number.
-fn count_differing(same: bool, counts: &mut [usize]) {
+fn count_differing(rt: &impl Print, same: bool, counts: &mut [usize]) -> io::Result<()> {
     if !same {
         tally::add(counts, tally::DIFFER);
-        tally::write_line(counts, b" differs\n");
+        tally::write_line(rt, counts, b" differs\n")?;
     }
+    Ok(())
 }
 
 // Counts a record.
-fn count_record(compared: Compared, counts: &mut [usize]) {
+fn count_record(rt: &impl Print, compared: Compared, counts: &mut [usize]) -> io::Result<()> {
     tally::add(counts, tally::group_of(compared.kind));
     tally::add(counts, tally::ANSWERS);
     count_listed(compared.listed, counts);
-    count_differing(compared.same, counts);
+    count_differing(rt, compared.same, counts)
 }
 
 // Counts a line that is no record among those that differ, and writes its number.
-fn count_wrong(counts: &mut [usize]) {
+fn count_wrong(rt: &impl Print, counts: &mut [usize]) -> io::Result<()> {
     tally::add(counts, tally::DIFFER);
-    tally::write_line(counts, b" is not a record\n");
+    tally::write_line(rt, counts, b" is not a record\n")
 }
 
 // Replays a line.
-fn replay_line(line: &[u8], counts: &mut [usize]) {
+fn replay_line(rt: &impl Print, line: &[u8], counts: &mut [usize]) -> io::Result<()> {
     tally::add(counts, tally::LINES);
     if is_passed_over(line) {
-        return;
+        return Ok(());
     }
     let replayed = record::replay(line);
     match replayed {
-        Replayed::Compared(compared) => count_record(compared, counts),
-        Replayed::NoRecord => count_wrong(counts),
+        Replayed::Compared(compared) => count_record(rt, compared, counts),
+        Replayed::NoRecord => count_wrong(rt, counts),
     }
 }
 
 // Replays the whole lines of a text; answers where the line without an end begins.
-fn replay_lines(text: &[u8], counts: &mut [usize]) -> usize {
+fn replay_lines(rt: &impl Print, text: &[u8], counts: &mut [usize]) -> io::Result<usize> {
     let mut from = 0;
     while from < text.len() {
         let end = line_end(text, from);
         if end >= text.len() {
-            return from;
+            return Ok(from);
         }
-        replay_line(&text[from..end], counts);
+        replay_line(rt, &text[from..end], counts)?;
         from = end + 1;
     }
-    from
+    Ok(from)
 }
 
 // Replays standard input; answers how many bytes stand behind its last whole line.
-fn replay_input(buffer: &mut [u8], counts: &mut [usize]) -> usize {
+fn replay_input(
+    rt: &(impl io::Input + Print),
+    buffer: &mut [u8],
+    counts: &mut [usize],
+) -> io::Result<usize> {
+    let mut reader = rt.reader();
     let mut reads = 0;
     let mut kept = 0;
     while reads < READS {
-        let size = record::least(fill(buffer, kept), buffer.len());
+        let size = record::least(fill(&mut reader, buffer, kept)?, buffer.len());
         if size == kept {
-            return kept;
+            return Ok(kept);
         }
-        let done = replay_lines(&buffer[0..size], counts);
+        let done = replay_lines(rt, &buffer[0..size], counts)?;
         kept = keep(buffer, done, size);
         reads += 1;
     }
-    kept
+    Ok(kept)
 }
 
 // Counts bytes behind the last whole line as a line that is no record: a line must have an end, and fit the buffer.
-fn count_rest(rest: usize, counts: &mut [usize]) {
+fn count_rest(rt: &impl Print, rest: usize, counts: &mut [usize]) -> io::Result<()> {
     if rest > 0 {
         tally::add(counts, tally::LINES);
-        count_wrong(counts);
+        count_wrong(rt, counts)?;
     }
+    Ok(())
 }
 
 // Replays standard input, and writes the table.
-pub(crate) fn replay(buffer: &mut [u8], counts: &mut [usize]) {
-    count_rest(replay_input(buffer, counts), counts);
-    tally::write_table(counts);
+pub(crate) fn replay(
+    rt: &(impl io::Input + Print),
+    buffer: &mut [u8],
+    counts: &mut [usize],
+) -> io::Result<()> {
+    let rest = replay_input(rt, buffer, counts)?;
+    count_rest(rt, rest, counts)?;
+    tally::write_table(rt, counts)
 }

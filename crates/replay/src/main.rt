@@ -6,9 +6,11 @@ mod record;
 mod reply;
 mod tally;
 
+use std::io;
+
 // Room for the longest line and for the counts.
-fn main() {
+fn main(rt: HostRuntime) -> io::Result<()> {
     let mut buffer = [0u8; 65536];
     let mut counts = [0usize; tally::COUNTS];
-    input::replay(&mut buffer, &mut counts);
+    input::replay(&rt, &mut buffer, &mut counts)
 }

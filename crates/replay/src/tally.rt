@@ -1,5 +1,5 @@
 // Counts of lines: one for each group of kinds, then listed differences, answers, those that differ, and lines read.
-use libc::STDOUT_FILENO;
+use std::io;
 
 // How many counts there are, and which are no group's.
 pub(crate) const COUNTS: usize = 14;
@@ -39,42 +39,43 @@ pub(crate) fn add(counts: &mut [usize], index: usize) {
 }
 
 // Writes a count.
-fn write_count(counts: &[usize], index: usize) {
+fn write_count(rt: &impl Print, counts: &[usize], index: usize) -> io::Result<()> {
     if index < counts.len() {
-        io::print_decimal(STDOUT_FILENO, counts[index] as u64);
+        rt.print(counts[index])?;
     }
+    Ok(())
 }
 
 // Writes that the line read last is not as it should be.
-pub(crate) fn write_line(counts: &[usize], what: &[u8]) {
-    io::write_all(STDOUT_FILENO, b"line ");
-    write_count(counts, LINES);
-    io::write_all(STDOUT_FILENO, what);
+pub(crate) fn write_line(rt: &impl Print, counts: &[usize], what: &[u8]) -> io::Result<()> {
+    rt.write_all(b"line ")?;
+    write_count(rt, counts, LINES)?;
+    rt.write_all(what)
 }
 
 // Writes a row of the table: a name and its count.
-fn write_row(counts: &[usize], name: &[u8], index: usize) {
-    io::write_all(STDOUT_FILENO, name);
-    io::write_all(STDOUT_FILENO, b" ");
-    write_count(counts, index);
-    io::write_all(STDOUT_FILENO, b"\n");
+fn write_row(rt: &impl Print, counts: &[usize], name: &[u8], index: usize) -> io::Result<()> {
+    rt.write_all(name)?;
+    rt.write_all(b" ")?;
+    write_count(rt, counts, index)?;
+    rt.write_all(b"\n")
 }
 
 // Writes the table, and the last line.
-pub(crate) fn write_table(counts: &[usize]) {
-    write_row(counts, b"word fields", 0);
-    write_row(counts, b"packets", 1);
-    write_row(counts, b"checks", 2);
-    write_row(counts, b"readers", 3);
-    write_row(counts, b"setters", 4);
-    write_row(counts, b"packings", 5);
-    write_row(counts, b"splices", 6);
-    write_row(counts, b"set payloads", 7);
-    write_row(counts, b"byte streams", 8);
-    write_row(counts, b"words needed", 9);
-    write_row(counts, b"listed differences", LISTED);
-    write_count(counts, ANSWERS);
-    io::write_all(STDOUT_FILENO, b" answers, ");
-    write_count(counts, DIFFER);
-    io::write_all(STDOUT_FILENO, b" differ\n");
+pub(crate) fn write_table(rt: &impl Print, counts: &[usize]) -> io::Result<()> {
+    write_row(rt, counts, b"word fields", 0)?;
+    write_row(rt, counts, b"packets", 1)?;
+    write_row(rt, counts, b"checks", 2)?;
+    write_row(rt, counts, b"readers", 3)?;
+    write_row(rt, counts, b"setters", 4)?;
+    write_row(rt, counts, b"packings", 5)?;
+    write_row(rt, counts, b"splices", 6)?;
+    write_row(rt, counts, b"set payloads", 7)?;
+    write_row(rt, counts, b"byte streams", 8)?;
+    write_row(rt, counts, b"words needed", 9)?;
+    write_row(rt, counts, b"listed differences", LISTED)?;
+    write_count(rt, counts, ANSWERS)?;
+    rt.write_all(b" answers, ")?;
+    write_count(rt, counts, DIFFER)?;
+    rt.write_all(b" differ\n")
 }

@@ -5,4 +5,4 @@ use Rattle.standard_input.specs.declared.Input as input
 
 abbrev pub bytes_read : input.Input → ℕ
 bytes_read (input.TheVariants.Bytes size) = size
-bytes_read input.TheVariants.Failed = 0
+bytes_read (input.TheVariants.Failed error) = 0

@@ -1,6 +1,8 @@
 // Lists the SysEx8 message on standard input, packet by packet.
 #![tactic(auto)]
 
-fn main() {
-    listing_program::run();
+use std::io;
+
+fn main(rt: HostRuntime) -> io::Result<()> {
+    listing_program::run(&rt)
 }

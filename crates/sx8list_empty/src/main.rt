@@ -1,6 +1,8 @@
 // The program on no bytes: refused 3.
 #![tactic(auto)]
 
-fn main() {
-    listing_program::run();
+use std::io;
+
+fn main(rt: HostRuntime) -> io::Result<()> {
+    listing_program::run(&rt)
 }

@@ -2,18 +2,20 @@
 #![tactic(auto)]
 
 use compare::report;
+use std::io;
 
 mod origins;
 
 // Writes a line for each sample.
-fn main() {
-    report(b"P6", origins::p6());
-    report(b"P7", origins::p7());
-    report(b"P8", origins::p8());
-    report(b"P9", origins::p9());
-    report(b"P8 with words behind", origins::behind());
-    report(b"refused edits", origins::edits());
-    report(b"refused lengths", origins::lengths());
-    report(b"refused messages", origins::messages());
-    report(b"16,385 words", origins::long());
+fn main(rt: HostRuntime) -> io::Result<()> {
+    report(&rt, b"P6", origins::p6())?;
+    report(&rt, b"P7", origins::p7())?;
+    report(&rt, b"P8", origins::p8())?;
+    report(&rt, b"P9", origins::p9())?;
+    report(&rt, b"P8 with words behind", origins::behind())?;
+    report(&rt, b"refused edits", origins::edits())?;
+    report(&rt, b"refused lengths", origins::lengths())?;
+    report(&rt, b"refused messages", origins::messages())?;
+    report(&rt, b"16,385 words", origins::long())?;
+    Ok(())
 }

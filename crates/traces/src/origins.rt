@@ -5,7 +5,7 @@ use compare::MESSAGE;
 use edit::OctetOrigin;
 
 // An origin as a row has it.
-#[derive(Drop)]
+#[derive(Clone, Copy)]
 struct Row {
     kind: u8,
     number: usize,

@@ -7,14 +7,14 @@ use Rattle.equality.proofs.Telling.{no_told}
 use Rattle.compare.proofs.begins.Statement.{statement}
 use Rattle.compare.proofs.begins.Tie as tie
 
-pub begins-spec : {M : Type 1} → statement M
-begins-spec =
+pub begins_spec : {M : Type 1} → statement M
+begins_spec =
     tie.close
     (tie.spec
-    (λ c. no_told (λ p. omega (arith, c.if1.true, p.0)))
-    (λ c. sym (length-take-le _ _ c.before.if1.false))
+    (λ c. no_told (λ p. omega (arith, c.if-bytes-size.true, p.0)))
+    (λ c. sym (length-take-le _ _ c.if-bytes-size.false))
     (λ c κs. search rules)
     (λ c. record {
-      holds = λ e. (c.before.before.if1.false, c.same.ensures.0 e);
+      holds = λ e. (c.if-bytes-size.false, c.same.ensures.0 e);
       told = λ p. c.same.ensures.1 p.1;
     }))

@@ -5,10 +5,10 @@ use Rattle.equality.proofs.Telling.{no_told, equal_told, told_as}
 use Rattle.compare.proofs.is_fault.Statement.{statement}
 use Rattle.compare.proofs.is_fault.Tie as tie
 
-pub is-fault-spec : {M : Type 1} → statement M
-is-fault-spec =
+pub is_fault_spec : {M : Type 1} → statement M
+is_fault_spec =
     tie.close
     (tie.spec
     (λ c κs. search rules)
-    (λ c. no_told (λ p. c.if1.true (c.before.number.ensures ∙ p.0)))
-    (λ c. let k = c.before.before in told_as (λ e. (sym k.number.ensures ∙ c.before.if1.false, e)) (λ p. p.1) (equal_told _ _)))
+    (λ c. no_told (λ p. c.if-number.true (c.number.ensures ∙ p.0)))
+    (λ c. let k = c in told_as (λ e. (sym k.number.ensures ∙ c.if-number.false, e)) (λ p. p.1) (equal_told _ _)))

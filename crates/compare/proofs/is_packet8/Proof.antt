@@ -9,30 +9,30 @@ use Rattle.equality.proofs.Telling.{no_told, equal_told, told_as}
 use Rattle.compare.proofs.is_packet8.Statement.{statement}
 use Rattle.compare.proofs.is_packet8.Tie as tie
 
-returns_2 : tie.Need-returns-2
-returns_2 c = let o = c.before.before.before in rw (sym o.before.before.read-packet.ensures ∙ ap packet_meaning8 o.read.given.1) (no_told (λ p. c.if1.true (c.before.kind-code.ensures ∙ p.0)))
+returns_2 : tie.Need-returns-then-kind_code-kind
+returns_2 c = let o = c in rw (sym o.read_packet-read.ensures ∙ ap packet_meaning8 o.in-Packet.is) (no_told (λ p. c.if-kind_code-kind.true (c.kind_code.ensures ∙ p.0)))
 
-returns-3 : tie.Need-returns-3
-returns-3 c = let o = c.before.before.before.before.before in rw (sym o.before.before.read-packet.ensures ∙ ap packet_meaning8 o.read.given.1) (no_told (λ p. c.if2.true p.1))
+returns-3 : tie.Need-returns-then-found-group
+returns-3 c = let o = c in rw (sym o.read_packet-read.ensures ∙ ap packet_meaning8 o.in-Packet.is) (no_told (λ p. c.if-found-group.true p.1))
 
-returns-4 : tie.Need-returns-4
-returns-4 c = let o = c.before.before.before.before.before.before.before in rw (sym o.before.before.read-packet.ensures ∙ ap packet_meaning8 o.read.given.1) (no_told (λ p. c.if3.true (ap (λ (l : List ℕ). get_or l 0 0) p.2)))
+returns-4 : tie.Need-returns-then-found-id
+returns-4 c = let o = c in rw (sym o.read_packet-read.ensures ∙ ap packet_meaning8 o.in-Packet.is) (no_told (λ p. c.if-found-id.true (ap (λ (l : List ℕ). get_or l 0 0) p.2)))
 
-returns-5 : tie.Need-returns-5
+returns-5 : tie.Need-returns
 returns-5 c =
-    let o = c.before.before.before.before.before.before.before.before in
-    let kind = sym c.before.before.before.before.before.before.kind-code.ensures ∙ c.before.before.before.before.before.if1.false in
-    rw (sym o.before.before.read-packet.ensures ∙ ap packet_meaning8 o.read.given.1)
-    (told_as (λ e. (kind, c.before.before.before.if2.false, ap (λ (i : ℕ). i ∷ []) c.before.if3.false, e)) (λ p. p.3) (equal_told _ _))
+    let o = c in
+    let kind = sym c.kind_code.ensures ∙ c.if-kind_code-kind.false in
+    rw (sym o.read_packet-read.ensures ∙ ap packet_meaning8 o.in-Packet.is)
+    (told_as (λ e. (kind, c.if-found-group.false, ap (λ (i : ℕ). i ∷ []) c.if-found-id.false, e)) (λ p. p.3) (equal_told _ _))
 
-pub is-packet8-spec : {M : Type 1} → statement M
-is-packet8-spec =
+pub is_packet8_spec : {M : Type 1} → statement M
+is_packet8_spec =
     tie.close
     (tie.spec
     (λ c κs. search rules)
     (λ c. search rules)
     (λ c. search rules)
-    (λ c. rw (sym c.before.before.read-packet.ensures ∙ ap packet_meaning8 c.enum_told.given.1) (no_told (λ e. e)))
+    (λ c. rw (sym c.read_packet-read.ensures ∙ ap packet_meaning8 c.in_default.is) (no_told (λ e. e)))
     (λ c κs. search rules)
     returns_2
     returns-3

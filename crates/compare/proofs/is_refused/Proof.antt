@@ -8,19 +8,19 @@ use Rattle.equality.proofs.Telling.{no_told, told_as}
 use Rattle.compare.proofs.is_refused.Statement.{statement}
 use Rattle.compare.proofs.is_refused.Tie as tie
 
-returns_2 : tie.Need-returns-2
+returns_2 : tie.Need-returns
 returns_2 c =
-    let o = c.before.before in
-    rw (sym o.before.before.check.ensures ∙ ap check_meaning8 o.checked.given.1)
-    (told_as (λ p. ap₂ refused p.0 p.1) (λ e. (cc, cc)) c.is-fault.ensures)
+    let o = c in
+    rw (sym o.check-checked.ensures ∙ ap check_meaning8 o.in-Refused.is)
+    (told_as (λ p. ap₂ refused p.0 p.1) (λ e. (cc, cc)) c.is_fault.ensures)
 
-pub is-refused-spec : {M : Type 1} → statement M
-is-refused-spec =
+pub is_refused_spec : {M : Type 1} → statement M
+is_refused_spec =
     tie.close
     (tie.spec
     (λ c κs. search rules)
     (λ c. search rules)
     (λ c. search rules)
-    (λ c. rw (sym c.before.before.check.ensures ∙ ap check_meaning8 c.enum_told.given.1) (no_told (λ e. never_both e)))
+    (λ c. rw (sym c.check-checked.ensures ∙ ap check_meaning8 c.in_default.is) (no_told (λ e. never_both e)))
     (λ c κs. search rules)
     returns_2)

@@ -8,19 +8,19 @@ use Rattle.equality.proofs.Telling.{no_told, told_as}
 use Rattle.compare.proofs.is_refused7.Statement.{statement}
 use Rattle.compare.proofs.is_refused7.Tie as tie
 
-returns_2 : tie.Need-returns-2
+returns_2 : tie.Need-returns
 returns_2 c =
-    let o = c.before.before in
-    rw (sym o.before.before.read-packet.ensures ∙ ap packet_meaning7 o.read.given.1)
-    (told_as (λ p. ap₂ refused p.0 p.1) (λ e. (cc, cc)) c.is-fault.ensures)
+    let o = c in
+    rw (sym o.read_packet-read.ensures ∙ ap packet_meaning7 o.in-Refused.is)
+    (told_as (λ p. ap₂ refused p.0 p.1) (λ e. (cc, cc)) c.is_fault.ensures)
 
-pub is-refused7-spec : {M : Type 1} → statement M
-is-refused7-spec =
+pub is_refused7_spec : {M : Type 1} → statement M
+is_refused7_spec =
     tie.close
     (tie.spec
     (λ c κs. search rules)
     (λ c. search rules)
     (λ c. search rules)
-    (λ c. rw (sym c.before.before.read-packet.ensures ∙ ap packet_meaning7 c.enum_told.given.1) (no_told (λ e. never_both e)))
+    (λ c. rw (sym c.read_packet-read.ensures ∙ ap packet_meaning7 c.in_default.is) (no_told (λ e. never_both e)))
     (λ c κs. search rules)
     returns_2)

@@ -6,14 +6,14 @@ use borrow.Author.Rules.{rules}
 use Rattle.recorded_lines.proofs.list.Statement.{statement}
 use Rattle.recorded_lines.proofs.list.Tie as tie
 
-abbrev invariant-loop : tie.invariant-loop
+abbrev invariant-loop : tie.invariant-loop-count
 invariant-loop line from values₀ at₀ count₀ values at count = (count ≤ length values₀) × (length values ≡ length values₀)
 
-abbrev decreases-loop : tie.decreases-loop
+abbrev decreases-loop : tie.decreases-loop-count
 decreases-loop line from values₀ at₀ count₀ values at count = length values₀ - count
 
-pub list-spec : {M : Type 1} → statement M
-list-spec =
+pub list_spec : {M : Type 1} → statement M
+list_spec =
     tie.close
     (tie.spec
     invariant-loop

@@ -5,14 +5,14 @@ use borrow.Author.Rules.{rules}
 use Rattle.recorded_lines.proofs.number_at.Statement.{statement}
 use Rattle.recorded_lines.proofs.number_at.Tie as tie
 
-abbrev invariant-loop : tie.invariant-loop
+abbrev invariant-loop : tie.invariant-loop-at
 invariant-loop line from value₀ at₀ value at = (value < 18446744073709551616) × (at < 18446744073709551616)
 
-abbrev decreases-loop : tie.decreases-loop
+abbrev decreases-loop : tie.decreases-loop-at
 decreases-loop line from value₀ at₀ value at = length line - at
 
-pub number-at-spec : {M : Type 1} → statement M
-number-at-spec =
+pub number_at_spec : {M : Type 1} → statement M
+number_at_spec =
     tie.close
     (tie.spec
     invariant-loop

@@ -8,17 +8,17 @@ use borrow.Author.Rules.{rules}
 use Rattle.recorded_lines.proofs.to_bytes.Statement.{statement}
 use Rattle.recorded_lines.proofs.to_bytes.Tie as tie
 
-abbrev invariant-loop : tie.invariant-loop
+abbrev invariant-loop : tie.invariant-loop-at
 invariant-loop values count bytes₀ at₀ bytes at = (at ≤ count) × (count ≤ length values) × (count ≤ length bytes₀) × (length bytes ≡ length bytes₀)
 
-abbrev decreases-loop : tie.decreases-loop
+abbrev decreases-loop : tie.decreases-loop-at
 decreases-loop values count bytes₀ at₀ bytes at = count - at
 
 never : {A : Type 0} → false ≡ true → A
 never e = absurd (subst T (sym e) tt)
 
-pub to-bytes-spec : {M : Type 1} → statement M
-to-bytes-spec =
+pub to_bytes_spec : {M : Type 1} → statement M
+to_bytes_spec =
     tie.close
     (tie.spec
     invariant-loop
@@ -38,4 +38,4 @@ to-bytes-spec =
     (λ c. search rules)
     (λ c. search rules)
     (λ c. search rules)
-    (λ c e. c.before.loop.invariant.2))
+    (λ c e. c.loop-at.invariant.2))

@@ -6,14 +6,14 @@ use borrow.Author.Rules.{rules}
 use Rattle.replayed_messages.proofs.messages.read_on.Statement.{statement}
 use Rattle.replayed_messages.proofs.messages.read_on.Tie as tie
 
-abbrev invariant-loop : tie.invariant-loop
+abbrev invariant-loop : tie.invariant-loop-index
 invariant-loop words numbers answer₀ cursor₀ next₀ index₀ answer cursor next index = length answer ≡ length answer₀
 
-abbrev decreases-loop : tie.decreases-loop
+abbrev decreases-loop : tie.decreases-loop-index
 decreases-loop words numbers answer₀ cursor₀ next₀ index₀ answer cursor next index = length numbers - index
 
-pub read-on-spec : {M : Type 1} → statement M
-read-on-spec =
+pub read_on_spec : {M : Type 1} → statement M
+read_on_spec =
     tie.close
     (tie.spec
     invariant-loop

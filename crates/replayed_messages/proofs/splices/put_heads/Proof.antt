@@ -6,14 +6,14 @@ use borrow.Author.Rules.{rules}
 use Rattle.replayed_messages.proofs.splices.put_heads.Statement.{statement}
 use Rattle.replayed_messages.proofs.splices.put_heads.Tie as tie
 
-abbrev invariant-loop : tie.invariant-loop
+abbrev invariant-loop : tie.invariant-loop-packet
 invariant-loop answer₀ at words size next₀ packet₀ answer next packet = (packet ≤ length words / 4) × (length answer ≡ length answer₀)
 
-abbrev decreases-loop : tie.decreases-loop
+abbrev decreases-loop : tie.decreases-loop-packet
 decreases-loop answer₀ at words size next₀ packet₀ answer next packet = length words / 4 - packet
 
-pub put-heads-spec : {M : Type 1} → statement M
-put-heads-spec =
+pub put_heads_spec : {M : Type 1} → statement M
+put_heads_spec =
     tie.close
     (tie.spec
     invariant-loop

@@ -6,14 +6,14 @@ use borrow.Author.Rules.{rules}
 use Rattle.replayed_packets.proofs.answer.put_bytes.Statement.{statement}
 use Rattle.replayed_packets.proofs.answer.put_bytes.Tie as tie
 
-abbrev invariant-loop : tie.invariant-loop
+abbrev invariant-loop : tie.invariant-loop-index
 invariant-loop answer₀ at bytes next₀ index₀ answer next index = (index ≤ length bytes) × (length answer ≡ length answer₀)
 
-abbrev decreases-loop : tie.decreases-loop
+abbrev decreases-loop : tie.decreases-loop-index
 decreases-loop answer₀ at bytes next₀ index₀ answer next index = length bytes - index
 
-pub put-bytes-spec : {M : Type 1} → statement M
-put-bytes-spec =
+pub put_bytes_spec : {M : Type 1} → statement M
+put_bytes_spec =
     tie.close
     (tie.spec
     invariant-loop

@@ -6,14 +6,14 @@ use borrow.Author.Rules.{rules}
 use Rattle.replayed_packets.proofs.answer.put_words.Statement.{statement}
 use Rattle.replayed_packets.proofs.answer.put_words.Tie as tie
 
-abbrev invariant-loop : tie.invariant-loop
+abbrev invariant-loop : tie.invariant-loop-index
 invariant-loop answer₀ at words next₀ index₀ answer next index = (index ≤ length words) × (length answer ≡ length answer₀)
 
-abbrev decreases-loop : tie.decreases-loop
+abbrev decreases-loop : tie.decreases-loop-index
 decreases-loop answer₀ at words next₀ index₀ answer next index = length words - index
 
-pub put-words-spec : {M : Type 1} → statement M
-put-words-spec =
+pub put_words_spec : {M : Type 1} → statement M
+put_words_spec =
     tie.close
     (tie.spec
     invariant-loop

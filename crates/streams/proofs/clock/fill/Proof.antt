@@ -7,10 +7,10 @@ use lib.ListN.{length, length-set}
 use Rattle.streams.proofs.clock.fill.Statement.{statement}
 use Rattle.streams.proofs.clock.fill.Tie as tie
 
-abbrev invariant-loop : tie.invariant-loop
+abbrev invariant-loop : tie.invariant-loop-at
 invariant-loop bytes₀ rare at₀ bytes at = length bytes ≡ length bytes₀
 
-abbrev decreases-loop : tie.decreases-loop
+abbrev decreases-loop : tie.decreases-loop-at
 decreases-loop bytes₀ rare at₀ bytes at = length bytes₀ - at
 
 pub fill_spec : {M : Type 1} → statement M
@@ -20,12 +20,12 @@ fill_spec =
     invariant-loop
     decreases-loop
     (λ c. refl)
-    (λ c. omega (arith, c.loop-test.true))
+    (λ c. omega (arith, c.loop-at-test.true))
     (λ c κs. search rules)
     (λ c κs. search rules)
-    (λ c. c.before.loop-test.true)
-    (λ c. omega (arith, c.before.loop-test.true))
-    (λ c. omega (arith, c.before.loop-test.true, c.before.before.loop.invariant))
-    (λ c. simp length-set c.before.before.loop.invariant)
+    (λ c. c.loop-at-test.true)
+    (λ c. omega (arith, c.loop-at-test.true))
+    (λ c. omega (arith, c.loop-at-test.true, c.loop-at.invariant))
+    (λ c. simp length-set c.loop-at.invariant)
     (λ c. search rules)
     (λ c. search rules))

@@ -6,8 +6,8 @@ use lib.ListN.{length-replicate}
 use Rattle.streams.proofs.clock.million.Statement.{statement}
 use Rattle.streams.proofs.clock.million.Tie as tie
 
-pub million-spec : {M : Type 1} → statement M
-million-spec =
+pub million_spec : {M : Type 1} → statement M
+million_spec =
     tie.close
     (tie.spec
     (λ c. sym (length-replicate {0} {A = ℕ} 1000005 0))

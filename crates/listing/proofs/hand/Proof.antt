@@ -1,0 +1,14 @@
+-- `listing::hand`: Room, or a copy. Assumes nothing.
+use borrow.Author.Rules.{rules}
+use Rattle.listing.proofs.Loading.{handed_room, handed_given}
+use Rattle.listing.proofs.hand.Statement.{statement}
+use Rattle.listing.proofs.hand.Tie as tie
+
+pub hand_spec : {M : Type 1} → statement M
+hand_spec =
+    tie.close
+    (tie.spec
+    (λ c. handed_room _ _ c.if-text-piece.true)
+    (λ c κs. search rules)
+    (λ c. search rules)
+    (λ c. let k = c in handed_given _ _ k.if-text-piece.false k.put_bytes.ensures))

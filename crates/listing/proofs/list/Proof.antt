@@ -1,0 +1,20 @@
+-- `listing::list`: the whole text, handed over. Assumes nothing.
+use borrow.Author.Rules.{rules}
+use mathlib.Core.Path.{refl, sym}
+use lib.Seq.{length-take-le}
+use Rattle.listing.proofs.Texts.{front_is, front_fits}
+use Rattle.listing.proofs.list.Statement.{statement}
+use Rattle.listing.proofs.list.Tie as tie
+
+pub list_spec : {M : Type 1} → statement M
+list_spec =
+    tie.close
+    (tie.spec
+    (λ c. search rules)
+    (λ c. search rules)
+    (λ c κs. search rules)
+    (λ c. front_fits c.put_listing-size.ensures refl)
+    (λ c. sym (length-take-le _ _ (front_fits c.put_listing-size.ensures refl)))
+    (λ c κs. search rules)
+    (λ c. search rules)
+    (λ c. let h = c in rw (front_is h.put_listing-size.ensures refl) at h.hand.ensures))

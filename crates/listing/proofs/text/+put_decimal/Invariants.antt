@@ -1,0 +1,5 @@
+-- `listing::text::put_decimal`: the measure is the number. Assumes nothing.
+use Rattle.listing.proofs.text.+put_decimal.Given as goal
+
+abbrev pub decreases-put_decimal : goal.decreases-put_decimal
+decreases-put_decimal l = l.number

@@ -1,5 +1,5 @@
 -- `carries::carries`: each return is a case of `carries`. Assumes nothing.
-use Rattle.std.proofs.Common.{[], ◌∷◌, ℕ, sym, ap, ◌∙◌}
+use Rattle.std.proofs.Common.{[], ◌∷◌, ℕ, sym, ap, ◌∙◌, arith}
 use Rattle.ump.specs.Packet.{sysex8}
 use Rattle.message.specs.Meaning.{check_meaning8}
 use Rattle.message.proofs.Checked.{shaped8, not_taken, taken_inside, taken-counted}
@@ -33,14 +33,14 @@ returns-then-packet-packets c =
     let m = told _ _ (sym c.check-checked.ensures ∙ ap check_meaning8 c.in-Message.is) in
     c.no-then-packet-packets.ensures
     ∙ other_packet _ _ _ _ _ _ m.taken.passes c.if-group-gt15.false (m.group_is ∙ c.if-message-group.false)
-    (m.id_is ∙ ap (λ (i : ℕ). i ∷ []) c.if-message-id.false) c.first_differing-packet.ensures c.if-packet-packets.true
+    (m.id_is ∙ ap (λ (i : ℕ). i ∷ []) (omega arith)) c.first_differing-packet.ensures c.if-packet-packets.true
 
 pub returns-then-message-payload : goal.returns-then-message-payload
 returns-then-message-payload c =
     let m = told _ _ (sym c.check-checked.ensures ∙ ap check_meaning8 c.in-Message.is) in
     c.no-then-message-payload.ensures
     ∙ other_size _ _ _ _ _ _ m.taken.passes c.if-group-gt15.false (m.group_is ∙ c.if-message-group.false)
-    (m.id_is ∙ ap (λ (i : ℕ). i ∷ []) c.if-message-id.false) c.first_differing-packet.ensures c.if-packet-packets.false
+    (m.id_is ∙ ap (λ (i : ℕ). i ∷ []) (omega arith)) c.first_differing-packet.ensures c.if-packet-packets.false
     (λ q. c.if-message-payload.true (m.taken.sized ∙ q))
 
 pub returns-in-Refused : goal.returns-in-Refused
@@ -50,5 +50,5 @@ pub returns-else-message-payload : goal.returns-else-message-payload
 returns-else-message-payload c =
     let m = told _ _ (sym c.check-checked.ensures ∙ ap check_meaning8 c.in-Message.is) in
     all_same _ _ _ _ _ _ m.taken.passes c.if-group-gt15.false (m.group_is ∙ c.if-message-group.false)
-    (m.id_is ∙ ap (λ (i : ℕ). i ∷ []) c.if-message-id.false) c.first_differing-packet.ensures c.if-packet-packets.false
+    (m.id_is ∙ ap (λ (i : ℕ). i ∷ []) (omega arith)) c.first_differing-packet.ensures c.if-packet-packets.false
     (sym m.taken.sized ∙ c.if-message-payload.false)

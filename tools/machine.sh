@@ -5,7 +5,7 @@
 #
 #   machine           the machine
 #   machine_title     what runs: native aarch64, native x86-64, emulated x86-64 or emulated aarch64
-#   machine_library   where its library stands, and machine_maker, the command that writes it
+#   machine_library   where its library stands, and machine_maker, the command that writes it: on x86-64, where the kit runs
 #   machine_tools [install]
 #                     finds a C compiler, cargo and a Rust for the machine and, if it is another one, an emulator. It exports what
 #                     cargo needs for them, MACHINE_CC (the compiler) and MACHINE_RUN (what to put before a program; empty if it
@@ -17,14 +17,14 @@ case $machine in
     x86_64)
         machine_title=x86-64
         machine_debian=amd64
-        machine_library=target/staticlib/liblatchbeacon.a
-        machine_maker="rt staticlib latchbeacon"
+        machine_library=crates/latchbeacon/out/liblatchbeacon.a
+        machine_maker="(cd crates/latchbeacon && rt lib)"
         ;;
     aarch64)
         machine_title=aarch64
         machine_debian=arm64
         machine_library=target/aarch64/liblatchbeacon.a
-        machine_maker=tools/native/staticlib
+        machine_maker=tools/arm
         ;;
     *)
         echo "the static library is for x86_64 and aarch64, not for $machine" >&2

@@ -10,15 +10,16 @@ use std::process::Command;
 const VARIABLE: &str = "LATCHBEACON_LIBRARY";
 const FILE: &str = "liblatchbeacon.a";
 
-// The command that builds the library for a machine, in the project's root, and the folder that it writes it to.
+// The command that builds the library for a machine, the folder of the project that it is run in, and the one that it writes it to.
 struct Maker {
     command: &'static str,
     words: &'static [&'static str],
+    place: &'static str,
     folder: &'static str,
 }
 
-const X86_64: Maker = Maker { command: "rt", words: &["staticlib", "latchbeacon"], folder: "target/staticlib" };
-const AARCH64: Maker = Maker { command: "bash", words: &["tools/native/staticlib"], folder: "target/aarch64" };
+const X86_64: Maker = Maker { command: "rt", words: &["lib"], place: "crates/latchbeacon", folder: "crates/latchbeacon/out" };
+const AARCH64: Maker = Maker { command: "bash", words: &["tools/arm"], place: ".", folder: "target/aarch64" };
 
 // Links the library that is named or built, or warns that there is none.
 fn main() {
@@ -72,20 +73,28 @@ fn named(path: PathBuf) -> Result<PathBuf, String> {
     ))
 }
 
-// The static library that `rt` proves and builds in the project's root, two folders up.
+// The static library that `rt` proves and builds in the project, whose root is two folders up.
 fn built(maker: Maker) -> Result<PathBuf, String> {
     let folder = env::current_dir().unwrap_or_default();
     let root = folder.ancestors().nth(2).ok_or("the bindings do not stand in the project")?;
     println!("cargo:rerun-if-env-changed=PATH");
-    for source in ["crates", "crates.txt", "tools"] {
+    for source in ["crates.txt", "tools"] {
         println!("cargo:rerun-if-changed={}", root.join(source).display());
+    }
+    // What `rt` itself writes, each crate's out/, is no source.
+    for part in fs::read_dir(root.join("crates")).into_iter().flatten().flatten() {
+        for source in ["src", "specs", "proofs"].map(|name| part.path().join(name)) {
+            if source.is_dir() {
+                println!("cargo:rerun-if-changed={}", source.display());
+            }
+        }
     }
     Command::new("rt").arg("version").output().map_err(|error| match error.kind() {
         ErrorKind::NotFound => neither(),
         _ => format!("`rt` cannot be run: {error}"),
     })?;
     let command = format!("{} {}", maker.command, maker.words.join(" "));
-    let answer = Command::new(maker.command).args(maker.words).current_dir(root).output();
+    let answer = Command::new(maker.command).args(maker.words).current_dir(root.join(maker.place)).output();
     let output = answer.map_err(|error| format!("`{command}` cannot be run: {error}"))?;
     let path = root.join(maker.folder).join(FILE);
     if output.status.success() && path.is_file() {
@@ -93,7 +102,7 @@ fn built(maker: Maker) -> Result<PathBuf, String> {
     }
     Err(format!(
         "`{command}` in {} did not write {} ({}):\n{}{}",
-        root.display(),
+        root.join(maker.place).display(),
         path.display(),
         output.status,
         String::from_utf8_lossy(&output.stdout),

@@ -2,8 +2,8 @@
 //! not written, and restore from a store, in words that the caller lends.
 //!
 //! This crate is a safe skin over the static library `latchbeacon`, whose calls are proved to meet their contracts for every
-//! input. It has no other dependencies. It links on Linux, on x86-64 and on Arm (aarch64). What is proved is compiled for x86-64; the
-//! library for Arm is made of the same module, and tested.
+//! input. It has no other dependencies. It links on Linux, on x86-64 and on Arm (aarch64), with the library that is proved for that
+//! machine.
 //!
 //! A [`Message`] borrows a buffer of words and keeps the message's length in it. It is made by the check, or handed out by [`Ports`],
 //! so what it holds is a whole message: one complete packet, or start, continue and end packets of one group and stream id. The calls

@@ -9,7 +9,7 @@ use ports::Received;
 
 // The table, the words and the output; how many of the words and of the output are lent; whether all answers and all words so far were as
 // expected.
-#[derive(Drop)]
+#[derive(Clone, Copy)]
 pub struct Desk {
     pub table: [u32; 32],
     pub words: [u32; 128],

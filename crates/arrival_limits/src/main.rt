@@ -2,13 +2,15 @@
 #![tactic(auto)]
 
 use compare::report;
+use std::io;
 
 mod limits;
 
 // Writes a line for each sample.
-fn main() {
-    report(b"Long: 16,385 words", limits::long_words());
-    report(b"Long: 16,385 words of output", limits::long_output());
-    report(b"16,384 words of both", limits::not_long());
-    report(b"a part of 1,024 words, filled", limits::longest());
+fn main(rt: HostRuntime) -> io::Result<()> {
+    report(&rt, b"Long: 16,385 words", limits::long_words())?;
+    report(&rt, b"Long: 16,385 words of output", limits::long_output())?;
+    report(&rt, b"16,384 words of both", limits::not_long())?;
+    report(&rt, b"a part of 1,024 words, filled", limits::longest())?;
+    Ok(())
 }

@@ -3,49 +3,62 @@
 #![tactic(auto)]
 
 use compare::report;
+use std::io;
 
 mod interleaved;
 mod slots;
 mod streams;
 
 // Messages that interleave.
-fn report_interleaved() {
-    report(b"two ports", interleaved::two_ports());
-    report(b"two stream ids", interleaved::two_ids());
-    report(b"two groups", interleaved::two_groups());
-    report(b"16 streams, 12 and 4", interleaved::sixteen());
-    report(b"16 streams, parts filled", interleaved::sixteen_full());
+fn report_interleaved(rt: &impl Print) -> io::Result<()> {
+    report(rt, b"two ports", interleaved::two_ports())?;
+    report(rt, b"two stream ids", interleaved::two_ids())?;
+    report(rt, b"two groups", interleaved::two_groups())?;
+    report(rt, b"16 streams, 12 and 4", interleaved::sixteen())?;
+    report(rt, b"16 streams, parts filled", interleaved::sixteen_full())?;
+    Ok(())
 }
 
 // How many streams are open.
-fn report_slots() {
-    report(b"Share: a 13th of a port", slots::share());
-    report(b"Full: 12 and 4, one more", slots::full());
-    report(b"Full: 8 and 8, one more", slots::full_of_equals());
-    report(b"Share, Full, Room in order", slots::order());
-    report(b"four beside twelve", slots::fewer_than_four());
-    report(b"restarts at 12 and at 16", slots::restarts());
-    report(b"slots and words used again", slots::used_again());
-    report(b"a port's slots used again", slots::share_again());
-    report(b"complete takes no slot", slots::complete_takes_none());
+fn report_slots(rt: &impl Print) -> io::Result<()> {
+    report(rt, b"Share: a 13th of a port", slots::share())?;
+    report(rt, b"Full: 12 and 4, one more", slots::full())?;
+    report(rt, b"Full: 8 and 8, one more", slots::full_of_equals())?;
+    report(rt, b"Share, Full, Room in order", slots::order())?;
+    report(rt, b"four beside twelve", slots::fewer_than_four())?;
+    report(rt, b"restarts at 12 and at 16", slots::restarts())?;
+    report(rt, b"slots and words used again", slots::used_again())?;
+    report(rt, b"a port's slots used again", slots::share_again())?;
+    report(rt, b"complete takes no slot", slots::complete_takes_none())?;
+    Ok(())
 }
 
 // What each kind of packet does.
-fn report_streams() {
-    report(b"restart", streams::restart());
-    report(b"complete closes its stream", streams::complete_closes());
-    report(b"complete without a stream", streams::complete_alone());
-    report(b"complete without room", streams::complete_without_room());
-    report(b"unexpected end, valid", streams::valid_end());
-    report(b"unexpected end, invalid", streams::invalid_end());
-    report(b"the same, nothing lent", streams::invalid_end_alone());
-    report(b"Closed, before Room", streams::closed());
-    report(b"Closed beside open streams", streams::closed_beside());
+fn report_streams(rt: &impl Print) -> io::Result<()> {
+    report(rt, b"restart", streams::restart())?;
+    report(
+        rt,
+        b"complete closes its stream",
+        streams::complete_closes(),
+    )?;
+    report(rt, b"complete without a stream", streams::complete_alone())?;
+    report(
+        rt,
+        b"complete without room",
+        streams::complete_without_room(),
+    )?;
+    report(rt, b"unexpected end, valid", streams::valid_end())?;
+    report(rt, b"unexpected end, invalid", streams::invalid_end())?;
+    report(rt, b"the same, nothing lent", streams::invalid_end_alone())?;
+    report(rt, b"Closed, before Room", streams::closed())?;
+    report(rt, b"Closed beside open streams", streams::closed_beside())?;
+    Ok(())
 }
 
 // Writes a line for each sample.
-fn main() {
-    report_interleaved();
-    report_slots();
-    report_streams();
+fn main(rt: HostRuntime) -> io::Result<()> {
+    report_interleaved(&rt)?;
+    report_slots(&rt)?;
+    report_streams(&rt)?;
+    Ok(())
 }

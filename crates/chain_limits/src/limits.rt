@@ -4,6 +4,7 @@ use compare::report;
 use equality::words::same_words;
 use message::sysex8::Copied;
 use restore::Restored;
+use std::io;
 use stores::answers::{
     check_gives, check_refuses, describes, is_unsound, refuses, refuses_in, restores,
 };
@@ -55,16 +56,18 @@ fn all_numbers_and_one() -> bool {
 }
 
 // Writes a line for each sample of many dumps.
-pub(crate) fn report_counts() {
-    report(b"256 dumps", most_dumps());
-    report(b"257 dumps", too_many_dumps());
-    report(b"257 dumps, a number twice", too_many_and_twice());
+pub(crate) fn report_counts(rt: &impl Print) -> io::Result<()> {
+    report(rt, b"256 dumps", most_dumps())?;
+    report(rt, b"257 dumps", too_many_dumps())?;
+    report(rt, b"257 dumps, a number twice", too_many_and_twice())?;
     report(
+        rt,
         b"257 dumps, a number twice, a short body",
         too_many_and_twice_and_short(),
-    );
-    report(b"65,536 dumps", all_numbers());
-    report(b"65,537 dumps", all_numbers_and_one());
+    )?;
+    report(rt, b"65,536 dumps", all_numbers())?;
+    report(rt, b"65,537 dumps", all_numbers_and_one())?;
+    Ok(())
 }
 
 // Writes FF down to 01, and zeros behind them.
@@ -127,10 +130,15 @@ fn longest_missing() -> bool {
 }
 
 // Writes a line for each sample of a long walk.
-pub(crate) fn report_long_walks() {
-    report(b"a chain of 255 deltas", longest_chain());
-    report(b"a ring of 256", longest_ring());
-    report(b"256 deltas down to a number not held", longest_missing());
+pub(crate) fn report_long_walks(rt: &impl Print) -> io::Result<()> {
+    report(rt, b"a chain of 255 deltas", longest_chain())?;
+    report(rt, b"a ring of 256", longest_ring())?;
+    report(
+        rt,
+        b"256 deltas down to a number not held",
+        longest_missing(),
+    )?;
+    Ok(())
 }
 
 // The words are full packets; looked at are the first and the last.
@@ -196,11 +204,12 @@ fn too_large_edit() -> bool {
 }
 
 // Writes a line for each sample of a large payload.
-pub(crate) fn report_sizes() {
-    report(b"a whole dump of 53,248 bytes", largest_whole());
-    report(b"an edit of 53,248 bytes", largest_edit());
-    report(b"a whole dump of 53,261 bytes", too_large_whole());
-    report(b"an edit of 53,261 bytes", too_large_edit());
+pub(crate) fn report_sizes(rt: &impl Print) -> io::Result<()> {
+    report(rt, b"a whole dump of 53,248 bytes", largest_whole())?;
+    report(rt, b"an edit of 53,248 bytes", largest_edit())?;
+    report(rt, b"a whole dump of 53,261 bytes", too_large_whole())?;
+    report(rt, b"an edit of 53,261 bytes", too_large_edit())?;
+    Ok(())
 }
 
 // 3,328 bytes fill 1,024 words, for which a smaller scratch is enough.
@@ -228,13 +237,15 @@ fn too_large_small_edit() -> bool {
 }
 
 // Writes a line for each sample of 1,024 words.
-pub(crate) fn report_small_sizes() {
-    report(b"3,328 bytes, 1,024 words", largest_small());
-    report(b"3,341 bytes, 1,024 words", too_large_small());
+pub(crate) fn report_small_sizes(rt: &impl Print) -> io::Result<()> {
+    report(rt, b"3,328 bytes, 1,024 words", largest_small())?;
+    report(rt, b"3,341 bytes, 1,024 words", too_large_small())?;
     report(
+        rt,
         b"an edit of 3,341 bytes, 1,024 words",
         too_large_small_edit(),
-    );
+    )?;
+    Ok(())
 }
 
 // A description of a delta with group 0 and stream id 0.
@@ -264,7 +275,8 @@ fn describes_too_large() -> bool {
 }
 
 // Writes a line for each sample that is described.
-pub(crate) fn report_described() {
-    report(b"describe: 255 deltas", describes_longest_chain());
-    report(b"describe: 53,261 bytes", describes_too_large());
+pub(crate) fn report_described(rt: &impl Print) -> io::Result<()> {
+    report(rt, b"describe: 255 deltas", describes_longest_chain())?;
+    report(rt, b"describe: 53,261 bytes", describes_too_large())?;
+    Ok(())
 }

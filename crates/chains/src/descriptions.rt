@@ -1,6 +1,7 @@
 // Samples of dumps that are described. Dump 1 is whole, in group 2 with stream id 7: 41 42, or 01 to 0E.
 use chain::{Basis, Description};
 use compare::report;
+use std::io;
 use stores::answers::{describe_refuses, describes, refuses_in, restores_in};
 
 // A description with group 2 and stream id 7.
@@ -68,11 +69,12 @@ fn delta_on_delta() -> bool {
 }
 
 // Writes a line for each sample that is described.
-pub(crate) fn report_given() {
-    report(b"describe: a whole dump", whole());
-    report(b"describe: a delta", delta());
-    report(b"describe: a delta on a delta", delta_on_delta());
-    report(b"describe: a base needs more words", base_needs_more());
+pub(crate) fn report_given(rt: &impl Print) -> io::Result<()> {
+    report(rt, b"describe: a whole dump", whole())?;
+    report(rt, b"describe: a delta", delta())?;
+    report(rt, b"describe: a delta on a delta", delta_on_delta())?;
+    report(rt, b"describe: a base needs more words", base_needs_more())?;
+    Ok(())
 }
 
 // Kind 04.
@@ -105,10 +107,11 @@ fn range() -> bool {
 }
 
 // Writes a line for each refusal of describing but Full.
-pub(crate) fn report_refused() {
-    report(b"describe: Format", format());
-    report(b"describe: Twice", twice());
-    report(b"describe: Missing", missing());
-    report(b"describe: Ring", ring());
-    report(b"describe: Range", range());
+pub(crate) fn report_refused(rt: &impl Print) -> io::Result<()> {
+    report(rt, b"describe: Format", format())?;
+    report(rt, b"describe: Twice", twice())?;
+    report(rt, b"describe: Missing", missing())?;
+    report(rt, b"describe: Ring", ring())?;
+    report(rt, b"describe: Range", range())?;
+    Ok(())
 }

@@ -1,6 +1,7 @@
 // Samples of dumps that are restored. Dump 1 is whole: group 2, stream id 7, data 41 42. Delta 2 is over dump 1, 1..1 by 43; delta 3 is
 // over delta 2, 0..1 by nothing.
 use compare::report;
+use std::io;
 use stores::answers::{
     check_gives, describe_refuses, refuses_in, restore_refuses, restores, restores_in,
 };
@@ -78,15 +79,16 @@ fn highest_first() -> bool {
 }
 
 // Writes a line for each sample of a whole dump.
-pub(crate) fn report_whole() {
-    report(b"the empty store", empty());
-    report(b"a whole dump", whole());
-    report(b"a whole dump without data", without_data());
-    report(b"a whole dump of two data records", joined());
-    report(b"numbers highest byte first", highest_first());
-    report(b"16,384 words lent", most_words());
-    report(b"16,385 words lent", long());
-    report(b"16,385 words lent, and Format", long_and_format());
+pub(crate) fn report_whole(rt: &impl Print) -> io::Result<()> {
+    report(rt, b"the empty store", empty())?;
+    report(rt, b"a whole dump", whole())?;
+    report(rt, b"a whole dump without data", without_data())?;
+    report(rt, b"a whole dump of two data records", joined())?;
+    report(rt, b"numbers highest byte first", highest_first())?;
+    report(rt, b"16,384 words lent", most_words())?;
+    report(rt, b"16,385 words lent", long())?;
+    report(rt, b"16,385 words lent, and Format", long_and_format())?;
+    Ok(())
 }
 
 // 41 43 42.
@@ -126,9 +128,10 @@ fn without_edits() -> bool {
 }
 
 // Writes a line for each sample of a delta.
-pub(crate) fn report_deltas() {
-    report(b"a delta", delta());
-    report(b"a delta on a delta", delta_on_delta());
-    report(b"a base behind its delta", base_behind());
-    report(b"a delta without edits", without_edits());
+pub(crate) fn report_deltas(rt: &impl Print) -> io::Result<()> {
+    report(rt, b"a delta", delta())?;
+    report(rt, b"a delta on a delta", delta_on_delta())?;
+    report(rt, b"a base behind its delta", base_behind())?;
+    report(rt, b"a delta without edits", without_edits())?;
+    Ok(())
 }

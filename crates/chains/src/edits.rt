@@ -1,5 +1,6 @@
 // Samples of Range and Room along the walk. Dump 1 is whole, in group 2 with stream id 7: 41 42, or 01 to 0D, or 01 to 0E.
 use compare::report;
+use std::io;
 use stores::answers::{refuses, refuses_in, restores, restores_in};
 
 // Restoring with four words lent is refused so, and leaves them.
@@ -66,12 +67,13 @@ fn off_the_walk() -> bool {
 }
 
 // Writes a line for each sample of a range that is reversed, or past the base, or not.
-pub(crate) fn report_ranges() {
-    report(b"a reversed edit is Range", reversed());
-    report(b"an edit past its base", past());
-    report(b"an edit at the end of its base", at_the_end());
-    report(b"ranges count in the base", in_the_base());
-    report(b"an edit past its base, off the walk", off_the_walk());
+pub(crate) fn report_ranges(rt: &impl Print) -> io::Result<()> {
+    report(rt, b"a reversed edit is Range", reversed())?;
+    report(rt, b"an edit past its base", past())?;
+    report(rt, b"an edit at the end of its base", at_the_end())?;
+    report(rt, b"ranges count in the base", in_the_base())?;
+    report(rt, b"an edit past its base, off the walk", off_the_walk())?;
+    Ok(())
 }
 
 // Delta 2 is reversed, and delta 3 of 15 bytes; four words lent.
@@ -104,17 +106,20 @@ fn own_range_first() -> bool {
 }
 
 // Writes a line for each sample of too few words, and of the order of Range and Room.
-pub(crate) fn report_rooms() {
-    report(b"three words lent", three_words());
+pub(crate) fn report_rooms(rt: &impl Print) -> io::Result<()> {
+    report(rt, b"three words lent", three_words())?;
     report(
+        rt,
         b"a base's Range before its delta's Room",
         range_before_room(),
-    );
+    )?;
     report(
+        rt,
         b"a base's Room before its delta's Range",
         room_before_range(),
-    );
-    report(b"a delta's Range before its Room", own_range_first());
+    )?;
+    report(rt, b"a delta's Range before its Room", own_range_first())?;
+    Ok(())
 }
 
 // Dump 1 of 14 bytes, delta 2 of 12; four words lent.
@@ -147,14 +152,21 @@ fn more_and_fewer() -> bool {
 }
 
 // Writes a line for each sample of Room on the way: judged by a dump's own result, and not in the middle of its edits.
-pub(crate) fn report_on_the_way() {
+pub(crate) fn report_on_the_way(rt: &impl Print) -> io::Result<()> {
     report(
+        rt,
         b"a whole dump on the way needs more words",
         whole_on_the_way(),
-    );
-    report(b"a delta on the way needs more words", delta_on_the_way());
+    )?;
     report(
+        rt,
+        b"a delta on the way needs more words",
+        delta_on_the_way(),
+    )?;
+    report(
+        rt,
         b"13 bytes, 5 more, 5 fewer, four words lent",
         more_and_fewer(),
-    );
+    )?;
+    Ok(())
 }

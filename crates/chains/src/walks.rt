@@ -1,5 +1,6 @@
 // Samples of walks along bases that come back, or come to a number not held.
 use compare::report;
+use std::io;
 use stores::answers::{refuses, restores};
 
 // 1 of 1.
@@ -40,15 +41,17 @@ fn ring_beside() -> bool {
 }
 
 // Writes a line for each sample of a ring.
-pub(crate) fn report_rings() {
-    report(b"a ring of one", ring_of_one());
-    report(b"a ring of two", ring_of_two());
-    report(b"a ring of three", ring_of_three());
+pub(crate) fn report_rings(rt: &impl Print) -> io::Result<()> {
+    report(rt, b"a ring of one", ring_of_one())?;
+    report(rt, b"a ring of two", ring_of_two())?;
+    report(rt, b"a ring of three", ring_of_three())?;
     report(
+        rt,
         b"a walk into a ring that does not hold its start",
         into_a_ring(),
-    );
-    report(b"a ring beside the walk", ring_beside());
+    )?;
+    report(rt, b"a ring beside the walk", ring_beside())?;
+    Ok(())
 }
 
 // The number asked for.
@@ -89,10 +92,11 @@ fn largest() -> bool {
 }
 
 // Writes a line for each sample of a number not held.
-pub(crate) fn report_missing() {
-    report(b"missing at the start", missing_at_the_start());
-    report(b"missing in the middle", missing_in_the_middle());
-    report(b"missing off the walk", missing_off_the_walk());
-    report(b"number 65,537 is not dump 1", above());
-    report(b"the largest number", largest());
+pub(crate) fn report_missing(rt: &impl Print) -> io::Result<()> {
+    report(rt, b"missing at the start", missing_at_the_start())?;
+    report(rt, b"missing in the middle", missing_in_the_middle())?;
+    report(rt, b"missing off the walk", missing_off_the_walk())?;
+    report(rt, b"number 65,537 is not dump 1", above())?;
+    report(rt, b"the largest number", largest())?;
+    Ok(())
 }

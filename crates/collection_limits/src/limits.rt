@@ -4,6 +4,7 @@ use equality::words::same_words;
 use reclaims::many::{mark_from, stays};
 use reclaims::{collect_refuses_in, collects_in, mark_refuses_in};
 use restore::Restored;
+use std::io;
 use stores::answers::{check_gives, check_refuses};
 use stores::patterns::{Pattern, fill};
 
@@ -68,12 +69,17 @@ fn room_again() -> bool {
 }
 
 // Writes a line for each sample of a 257th dump.
-pub(crate) fn report_counts() {
-    report(b"marking: Full", mark_full());
-    report(b"marking: Full before Missing", mark_full_and_missing());
-    report(b"collecting: Full", collect_full());
-    report(b"collecting: Twice before Full", collect_full_and_twice());
-    report(b"a 257th dump in the place of one", room_again());
+pub(crate) fn report_counts(rt: &impl Print) -> io::Result<()> {
+    report(rt, b"marking: Full", mark_full())?;
+    report(rt, b"marking: Full before Missing", mark_full_and_missing())?;
+    report(rt, b"collecting: Full", collect_full())?;
+    report(
+        rt,
+        b"collecting: Twice before Full",
+        collect_full_and_twice(),
+    )?;
+    report(rt, b"a 257th dump in the place of one", room_again())?;
+    Ok(())
 }
 
 // Delta 2 of 53,248 bytes goes, and dump 1 without data stays.
@@ -131,8 +137,13 @@ fn chain_restored() -> bool {
 }
 
 // Writes a line for each sample of large dumps, and of a long chain.
-pub(crate) fn report_sizes() {
-    report(b"53,248 bytes go", large_goes());
-    report(b"53,248 bytes move down", large_moves());
-    report(b"a chain of 256 is restored as before", chain_restored());
+pub(crate) fn report_sizes(rt: &impl Print) -> io::Result<()> {
+    report(rt, b"53,248 bytes go", large_goes())?;
+    report(rt, b"53,248 bytes move down", large_moves())?;
+    report(
+        rt,
+        b"a chain of 256 is restored as before",
+        chain_restored(),
+    )?;
+    Ok(())
 }

@@ -1,10 +1,13 @@
 // Samples of reclaiming a store of dumps (02, T-13) that are large, run through the public calls: a line for each, `ok` or `WRONG`.
 #![tactic(auto)]
 
+use std::io;
+
 mod limits;
 
 // Writes a line for each sample.
-fn main() {
-    limits::report_counts();
-    limits::report_sizes();
+fn main(rt: HostRuntime) -> io::Result<()> {
+    limits::report_counts(&rt)?;
+    limits::report_sizes(&rt)?;
+    Ok(())
 }

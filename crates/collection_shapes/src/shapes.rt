@@ -2,6 +2,7 @@
 use compare::report;
 use reclaims::collects_in;
 use reclaims::many::{mark_from, mark_odd, stays};
+use std::io;
 use stores::patterns::{Pattern, fill};
 
 // 256 dumps in a chain.
@@ -58,15 +59,17 @@ fn chain_unwanted() -> bool {
 }
 
 // Writes a line for each sample of 256 dumps in a chain.
-pub(crate) fn report_chains() {
-    report(b"a chain of 256, all wanted", chain_wanted());
-    report(b"a chain of 256, half wanted", upper_half());
+pub(crate) fn report_chains(rt: &impl Print) -> io::Result<()> {
+    report(rt, b"a chain of 256, all wanted", chain_wanted())?;
+    report(rt, b"a chain of 256, half wanted", upper_half())?;
     report(
+        rt,
         b"a chain of 256 from the last down, half wanted",
         upper_half_in_front(),
-    );
-    report(b"a chain of 256, the last alone wanted", last_wanted());
-    report(b"a chain of 256, none wanted", chain_unwanted());
+    )?;
+    report(rt, b"a chain of 256, the last alone wanted", last_wanted())?;
+    report(rt, b"a chain of 256, none wanted", chain_unwanted())?;
+    Ok(())
 }
 
 // 255 deltas of 0.
@@ -115,12 +118,18 @@ fn star_base_wanted() -> bool {
 }
 
 // Writes a line for each sample of 256 dumps in a star.
-pub(crate) fn report_stars() {
-    report(b"a star of 256, all wanted", star_wanted());
-    report(b"a star of 256, half wanted", star_half());
+pub(crate) fn report_stars(rt: &impl Print) -> io::Result<()> {
+    report(rt, b"a star of 256, all wanted", star_wanted())?;
+    report(rt, b"a star of 256, half wanted", star_half())?;
     report(
+        rt,
         b"a star of 256, half wanted and its base unwanted",
         star_half_without_base(),
-    );
-    report(b"a star of 256, its base alone wanted", star_base_wanted());
+    )?;
+    report(
+        rt,
+        b"a star of 256, its base alone wanted",
+        star_base_wanted(),
+    )?;
+    Ok(())
 }

@@ -2,6 +2,7 @@
 use compare::report;
 use reclaims::collects_in;
 use reclaims::many::{mark_from, stays};
+use std::io;
 use stores::answers::refuses;
 use stores::patterns::{Pattern, fill};
 
@@ -45,8 +46,13 @@ fn missing_reached() -> bool {
 }
 
 // Writes a line for each sample of a long walk.
-pub(crate) fn report_walks() {
-    report(b"a ring of 256, one wanted", ring_reached());
-    report(b"a ring of 256, none wanted", ring_unwanted());
-    report(b"256 deltas down to a number not held", missing_reached());
+pub(crate) fn report_walks(rt: &impl Print) -> io::Result<()> {
+    report(rt, b"a ring of 256, one wanted", ring_reached())?;
+    report(rt, b"a ring of 256, none wanted", ring_unwanted())?;
+    report(
+        rt,
+        b"256 deltas down to a number not held",
+        missing_reached(),
+    )?;
+    Ok(())
 }

@@ -2,6 +2,7 @@
 // delta 2, 0..1 by nothing. Other dumps have no data and no edits.
 use compare::report;
 use reclaims::{collect_refuses, collects};
+use std::io;
 
 // Length 0, and all bytes zero.
 fn all_unwanted() -> bool {
@@ -76,19 +77,21 @@ fn into_ring() -> bool {
 }
 
 // Writes a line for each sample of a dump that no wanted one rests on.
-pub(crate) fn report_freed() {
-    report(b"all unwanted", all_unwanted());
-    report(b"a chain of three, the last unwanted", last());
+pub(crate) fn report_freed(rt: &impl Print) -> io::Result<()> {
+    report(rt, b"all unwanted", all_unwanted())?;
+    report(rt, b"a chain of three, the last unwanted", last())?;
     report(
+        rt,
         b"a chain of three, the last unwanted and first in the store",
         last_in_front(),
-    );
-    report(b"a chain of three, the first alone wanted", last_two());
-    report(b"an unwanted delta beside a wanted one", beside());
-    report(b"an unwanted walk to a number not held", missing());
-    report(b"an unwanted ring that is not reached", ring());
-    report(b"an unwanted ring of one", ring_of_one());
-    report(b"an unwanted walk into an unwanted ring", into_ring());
+    )?;
+    report(rt, b"a chain of three, the first alone wanted", last_two())?;
+    report(rt, b"an unwanted delta beside a wanted one", beside())?;
+    report(rt, b"an unwanted walk to a number not held", missing())?;
+    report(rt, b"an unwanted ring that is not reached", ring())?;
+    report(rt, b"an unwanted ring of one", ring_of_one())?;
+    report(rt, b"an unwanted walk into an unwanted ring", into_ring())?;
+    Ok(())
 }
 
 // Dump 4 with two records of data; delta 5 of 1 with two edits, one with data.
@@ -145,13 +148,18 @@ fn overlapping() -> bool {
 }
 
 // Writes a line for each sample of the records of a dump, and of their order.
-pub(crate) fn report_moved() {
-    report(b"edits and data go with their dump", parts_go());
-    report(b"edits and data stay with their dump", parts_stay());
-    report(b"data that looks like a dump", data_like_dumps());
-    report(b"the old order", order());
-    report(b"unwanted bases in the old order", bases_move());
-    report(b"records longer than the way that they move", overlapping());
+pub(crate) fn report_moved(rt: &impl Print) -> io::Result<()> {
+    report(rt, b"edits and data go with their dump", parts_go())?;
+    report(rt, b"edits and data stay with their dump", parts_stay())?;
+    report(rt, b"data that looks like a dump", data_like_dumps())?;
+    report(rt, b"the old order", order())?;
+    report(rt, b"unwanted bases in the old order", bases_move())?;
+    report(
+        rt,
+        b"records longer than the way that they move",
+        overlapping(),
+    )?;
+    Ok(())
 }
 
 // Kind 13.
@@ -181,9 +189,10 @@ fn format_first() -> bool {
 }
 
 // Writes a line for each store that is refused.
-pub(crate) fn report_refused() {
-    report(b"collecting: Format", format());
-    report(b"collecting: zeros behind the bytes in use", zeros());
-    report(b"collecting: Twice", twice());
-    report(b"collecting: Format before Twice", format_first());
+pub(crate) fn report_refused(rt: &impl Print) -> io::Result<()> {
+    report(rt, b"collecting: Format", format())?;
+    report(rt, b"collecting: zeros behind the bytes in use", zeros())?;
+    report(rt, b"collecting: Twice", twice())?;
+    report(rt, b"collecting: Format before Twice", format_first())?;
+    Ok(())
 }

@@ -2,6 +2,7 @@
 // 0..1 by nothing. Other dumps have no data and no edits.
 use compare::report;
 use reclaims::collects;
+use std::io;
 
 // No bytes.
 fn empty() -> bool {
@@ -65,15 +66,24 @@ fn joined_walks() -> bool {
 }
 
 // Writes a line for each sample of a store that stays whole.
-pub(crate) fn report_whole() {
-    report(b"collecting the empty store", empty());
-    report(b"nothing unwanted", all_wanted());
-    report(b"an unwanted base of a wanted delta", base());
-    report(b"an unwanted base behind its wanted delta", base_behind());
-    report(b"a chain of three, the middle unwanted", middle());
-    report(b"a chain of three, the last alone wanted", last_wanted());
-    report(b"an unwanted base of two wanted deltas", shared_base());
-    report(b"two walks that join", joined_walks());
+pub(crate) fn report_whole(rt: &impl Print) -> io::Result<()> {
+    report(rt, b"collecting the empty store", empty())?;
+    report(rt, b"nothing unwanted", all_wanted())?;
+    report(rt, b"an unwanted base of a wanted delta", base())?;
+    report(
+        rt,
+        b"an unwanted base behind its wanted delta",
+        base_behind(),
+    )?;
+    report(rt, b"a chain of three, the middle unwanted", middle())?;
+    report(
+        rt,
+        b"a chain of three, the last alone wanted",
+        last_wanted(),
+    )?;
+    report(rt, b"an unwanted base of two wanted deltas", shared_base())?;
+    report(rt, b"two walks that join", joined_walks())?;
+    Ok(())
 }
 
 // 4 of 3, 3 of 2, 2 of 3; 1 is unwanted.
@@ -141,16 +151,18 @@ fn largest_numbers() -> bool {
 }
 
 // Writes a line for each sample of a walk that ends in a ring, or comes to a number not held.
-pub(crate) fn report_walks() {
-    report(b"an unwanted ring that is reached", ring_reached());
-    report(b"a ring with one wanted dump", ring_one_wanted());
-    report(b"a wanted ring of one", ring_of_one());
+pub(crate) fn report_walks(rt: &impl Print) -> io::Result<()> {
+    report(rt, b"an unwanted ring that is reached", ring_reached())?;
+    report(rt, b"a ring with one wanted dump", ring_one_wanted())?;
+    report(rt, b"a wanted ring of one", ring_of_one())?;
     report(
+        rt,
         b"an unwanted ring of one that is reached",
         into_ring_of_one(),
-    );
-    report(b"a walk to a number not held", missing());
-    report(b"a base not held", missing_at_once());
-    report(b"a base 0 that is not held", base_zero());
-    report(b"numbers 65,534 and 65,535", largest_numbers());
+    )?;
+    report(rt, b"a walk to a number not held", missing())?;
+    report(rt, b"a base not held", missing_at_once())?;
+    report(rt, b"a base 0 that is not held", base_zero())?;
+    report(rt, b"numbers 65,534 and 65,535", largest_numbers())?;
+    Ok(())
 }

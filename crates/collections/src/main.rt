@@ -2,14 +2,17 @@
 // collected is collected again. Those of many dumps are programs collection_shapes' and collection_limits'.
 #![tactic(auto)]
 
+use std::io;
+
 mod freeing;
 mod keeping;
 
 // Writes a line for each sample.
-fn main() {
-    keeping::report_whole();
-    keeping::report_walks();
-    freeing::report_freed();
-    freeing::report_moved();
-    freeing::report_refused();
+fn main(rt: HostRuntime) -> io::Result<()> {
+    keeping::report_whole(&rt)?;
+    keeping::report_walks(&rt)?;
+    freeing::report_freed(&rt)?;
+    freeing::report_moved(&rt)?;
+    freeing::report_refused(&rt)?;
+    Ok(())
 }

@@ -2,16 +2,19 @@
 // read as before, run through the public calls: a line for each, `ok` or `WRONG`.
 #![tactic(auto)]
 
+use std::io;
+
 mod records;
 mod unwanted;
 
 // Writes a line for each sample.
-fn main() {
-    records::report_kinds();
-    records::report_bodies();
-    records::report_places();
-    records::report_order();
-    unwanted::report_read();
-    unwanted::report_refused();
-    unwanted::report_counts();
+fn main(rt: HostRuntime) -> io::Result<()> {
+    records::report_kinds(&rt)?;
+    records::report_bodies(&rt)?;
+    records::report_places(&rt)?;
+    records::report_order(&rt)?;
+    unwanted::report_read(&rt)?;
+    unwanted::report_refused(&rt)?;
+    unwanted::report_counts(&rt)?;
+    Ok(())
 }

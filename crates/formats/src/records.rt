@@ -1,5 +1,6 @@
 // Samples of Format, and of what is none. Each store but those of the start begins with dump 1: group 2, stream id 7, data 41 42.
 use compare::report;
+use std::io;
 use stores::answers::{check_gives, is_unsound, restores};
 
 // With four bytes behind it.
@@ -44,14 +45,15 @@ fn kind_ff() -> bool {
 }
 
 // Writes a line for each kind that there is not.
-pub(crate) fn report_kinds() {
-    report(b"kind 00", kind_00());
-    report(b"kind 04", kind_04());
-    report(b"kind 10", kind_10());
-    report(b"kind 13", kind_13());
-    report(b"kind 80", kind_80());
-    report(b"kind 8E", kind_8e());
-    report(b"kind FF", kind_ff());
+pub(crate) fn report_kinds(rt: &impl Print) -> io::Result<()> {
+    report(rt, b"kind 00", kind_00())?;
+    report(rt, b"kind 04", kind_04())?;
+    report(rt, b"kind 10", kind_10())?;
+    report(rt, b"kind 13", kind_13())?;
+    report(rt, b"kind 80", kind_80())?;
+    report(rt, b"kind 8E", kind_8e())?;
+    report(rt, b"kind FF", kind_ff())?;
+    Ok(())
 }
 
 // Three bytes of four.
@@ -86,12 +88,13 @@ fn short_bytes() -> bool {
 }
 
 // Writes a line for each kind whose body ends with the store.
-pub(crate) fn report_bodies() {
-    report(b"a short whole dump", short_whole());
-    report(b"a short delta", short_delta());
-    report(b"a short edit", short_edit());
-    report(b"a short data record of one byte", short_byte());
-    report(b"a short data record of 13 bytes", short_bytes());
+pub(crate) fn report_bodies(rt: &impl Print) -> io::Result<()> {
+    report(rt, b"a short whole dump", short_whole())?;
+    report(rt, b"a short delta", short_delta())?;
+    report(rt, b"a short edit", short_edit())?;
+    report(rt, b"a short data record of one byte", short_byte())?;
+    report(rt, b"a short data record of 13 bytes", short_bytes())?;
+    Ok(())
 }
 
 // Before any edit.
@@ -128,13 +131,18 @@ fn group_16() -> bool {
 }
 
 // Writes a line for each record that stands where it may not, and a group above 15.
-pub(crate) fn report_places() {
-    report(b"data behind a delta", data_behind_delta());
-    report(b"an edit behind a whole dump", edit_behind_whole());
-    report(b"an edit behind a whole dump's data", edit_behind_data());
-    report(b"an edit at the start", edit_at_the_start());
-    report(b"data at the start", data_at_the_start());
-    report(b"group 16", group_16());
+pub(crate) fn report_places(rt: &impl Print) -> io::Result<()> {
+    report(rt, b"data behind a delta", data_behind_delta())?;
+    report(rt, b"an edit behind a whole dump", edit_behind_whole())?;
+    report(
+        rt,
+        b"an edit behind a whole dump's data",
+        edit_behind_data(),
+    )?;
+    report(rt, b"an edit at the start", edit_at_the_start())?;
+    report(rt, b"data at the start", data_at_the_start())?;
+    report(rt, b"group 16", group_16())?;
+    Ok(())
 }
 
 // 0..2, then 1..2.
@@ -184,11 +192,20 @@ fn twice_and_format() -> bool {
 }
 
 // Writes a line for each sample of edits in order or not, and of a number used again.
-pub(crate) fn report_order() {
-    report(b"an edit before the end of the one before", edits_overlap());
-    report(b"edits that touch", edits_touch());
-    report(b"a reversed edit is no Format", edit_reversed());
-    report(b"edits of two deltas", edits_of_two());
-    report(b"a number twice", twice());
-    report(b"a number twice, and Format behind it", twice_and_format());
+pub(crate) fn report_order(rt: &impl Print) -> io::Result<()> {
+    report(
+        rt,
+        b"an edit before the end of the one before",
+        edits_overlap(),
+    )?;
+    report(rt, b"edits that touch", edits_touch())?;
+    report(rt, b"a reversed edit is no Format", edit_reversed())?;
+    report(rt, b"edits of two deltas", edits_of_two())?;
+    report(rt, b"a number twice", twice())?;
+    report(
+        rt,
+        b"a number twice, and Format behind it",
+        twice_and_format(),
+    )?;
+    Ok(())
 }

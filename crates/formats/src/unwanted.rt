@@ -2,6 +2,7 @@
 // Delta 2 is over dump 1, 1..1 by 43.
 use chain::{Basis, Description};
 use compare::report;
+use std::io;
 use stores::answers::{check_gives, describes, is_unsound, refuses, restores};
 use stores::patterns::{Pattern, fill};
 
@@ -68,14 +69,15 @@ fn missing() -> bool {
 }
 
 // Writes a line for each sample that is read.
-pub(crate) fn report_read() {
-    report(b"an unwanted whole dump", whole());
-    report(b"an unwanted delta", delta());
-    report(b"a delta over an unwanted base", unwanted_base());
-    report(b"an unwanted delta over an unwanted base", both());
-    report(b"describe: an unwanted delta", described());
-    report(b"a ring of unwanted dumps", ring());
-    report(b"an unwanted delta of a number not held", missing());
+pub(crate) fn report_read(rt: &impl Print) -> io::Result<()> {
+    report(rt, b"an unwanted whole dump", whole())?;
+    report(rt, b"an unwanted delta", delta())?;
+    report(rt, b"a delta over an unwanted base", unwanted_base())?;
+    report(rt, b"an unwanted delta over an unwanted base", both())?;
+    report(rt, b"describe: an unwanted delta", described())?;
+    report(rt, b"a ring of unwanted dumps", ring())?;
+    report(rt, b"an unwanted delta of a number not held", missing())?;
+    Ok(())
 }
 
 // Dump 1, and dump 1 unwanted.
@@ -112,16 +114,18 @@ fn data_behind_delta() -> bool {
 }
 
 // Writes a line for each sample that is refused.
-pub(crate) fn report_refused() {
-    report(b"a number wanted and unwanted", twice());
-    report(b"a number unwanted twice", unwanted_twice());
-    report(b"a short unwanted delta", short());
-    report(b"group 16 of an unwanted dump", group_16());
+pub(crate) fn report_refused(rt: &impl Print) -> io::Result<()> {
+    report(rt, b"a number wanted and unwanted", twice())?;
+    report(rt, b"a number unwanted twice", unwanted_twice())?;
+    report(rt, b"a short unwanted delta", short())?;
+    report(rt, b"group 16 of an unwanted dump", group_16())?;
     report(
+        rt,
         b"an edit behind an unwanted whole dump",
         edit_behind_whole(),
-    );
-    report(b"data behind an unwanted delta", data_behind_delta());
+    )?;
+    report(rt, b"data behind an unwanted delta", data_behind_delta())?;
+    Ok(())
 }
 
 // The first and the last are unwanted.
@@ -143,7 +147,8 @@ fn too_many_dumps() -> bool {
 }
 
 // Writes a line for each sample of many dumps.
-pub(crate) fn report_counts() {
-    report(b"256 dumps, some unwanted", most_dumps());
-    report(b"257 dumps, some unwanted", too_many_dumps());
+pub(crate) fn report_counts(rt: &impl Print) -> io::Result<()> {
+    report(rt, b"256 dumps, some unwanted", most_dumps())?;
+    report(rt, b"257 dumps, some unwanted", too_many_dumps())?;
+    Ok(())
 }

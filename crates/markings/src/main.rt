@@ -2,12 +2,15 @@
 // collection_limits'.
 #![tactic(auto)]
 
+use std::io;
+
 mod marking;
 
 // Writes a line for each sample.
-fn main() {
-    marking::report_marked();
-    marking::report_found();
-    marking::report_missing();
-    marking::report_refused();
+fn main(rt: HostRuntime) -> io::Result<()> {
+    marking::report_marked(&rt)?;
+    marking::report_found(&rt)?;
+    marking::report_missing(&rt)?;
+    marking::report_refused(&rt)?;
+    Ok(())
 }

@@ -1,6 +1,7 @@
 // Samples of marking. Dump 1 is whole: group 2, stream id 7, data 41 42. Delta 2 is over dump 1, 1..1 by 43.
 use compare::report;
 use reclaims::{mark_refuses, marks};
+use std::io;
 
 // 01 to 11.
 fn whole() -> bool {
@@ -53,13 +54,18 @@ fn without_base() -> bool {
 }
 
 // Writes a line for each sample that is marked.
-pub(crate) fn report_marked() {
-    report(b"a whole dump is marked", whole());
-    report(b"a delta is marked", delta());
-    report(b"a whole dump is marked again", whole_again());
-    report(b"a delta is marked again", delta_again());
-    report(b"both dumps are marked", both());
-    report(b"a delta of a number not held is marked", without_base());
+pub(crate) fn report_marked(rt: &impl Print) -> io::Result<()> {
+    report(rt, b"a whole dump is marked", whole())?;
+    report(rt, b"a delta is marked", delta())?;
+    report(rt, b"a whole dump is marked again", whole_again())?;
+    report(rt, b"a delta is marked again", delta_again())?;
+    report(rt, b"both dumps are marked", both())?;
+    report(
+        rt,
+        b"a delta of a number not held is marked",
+        without_base(),
+    )?;
+    Ok(())
 }
 
 // 0102 and not 0201.
@@ -108,12 +114,13 @@ fn past_its_delta() -> bool {
 }
 
 // Writes a line for each sample of which record is marked.
-pub(crate) fn report_found() {
-    report(b"marking: numbers highest byte first", highest_first());
-    report(b"marking: number 65,535", number_ffff());
-    report(b"marking: data that looks like a dump", past_data());
-    report(b"marking: an edit with that number", past_an_edit());
-    report(b"marking: a delta of that number", past_its_delta());
+pub(crate) fn report_found(rt: &impl Print) -> io::Result<()> {
+    report(rt, b"marking: numbers highest byte first", highest_first())?;
+    report(rt, b"marking: number 65,535", number_ffff())?;
+    report(rt, b"marking: data that looks like a dump", past_data())?;
+    report(rt, b"marking: an edit with that number", past_an_edit())?;
+    report(rt, b"marking: a delta of that number", past_its_delta())?;
+    Ok(())
 }
 
 // Dump 1 alone.
@@ -146,12 +153,13 @@ fn largest() -> bool {
 }
 
 // Writes a line for each sample of a number not held.
-pub(crate) fn report_missing() {
-    report(b"marking: a number not held", missing());
-    report(b"marking: a base not held", base_not_held());
-    report(b"marking: the empty store", empty());
-    report(b"marking: number 65,537 is not dump 1", above());
-    report(b"marking: the largest number", largest());
+pub(crate) fn report_missing(rt: &impl Print) -> io::Result<()> {
+    report(rt, b"marking: a number not held", missing())?;
+    report(rt, b"marking: a base not held", base_not_held())?;
+    report(rt, b"marking: the empty store", empty())?;
+    report(rt, b"marking: number 65,537 is not dump 1", above())?;
+    report(rt, b"marking: the largest number", largest())?;
+    Ok(())
 }
 
 // Kind 10, behind the dump.
@@ -185,11 +193,16 @@ fn twice_before_missing() -> bool {
 }
 
 // Writes a line for each store that is refused.
-pub(crate) fn report_refused() {
-    report(b"marking: Format", format());
-    report(b"marking: zeros behind the bytes in use", zeros());
-    report(b"marking: Twice", twice());
-    report(b"marking: Twice, wanted and unwanted", twice_unwanted());
-    report(b"marking: Format before Twice and Missing", format_first());
-    report(b"marking: Twice before Missing", twice_before_missing());
+pub(crate) fn report_refused(rt: &impl Print) -> io::Result<()> {
+    report(rt, b"marking: Format", format())?;
+    report(rt, b"marking: zeros behind the bytes in use", zeros())?;
+    report(rt, b"marking: Twice", twice())?;
+    report(rt, b"marking: Twice, wanted and unwanted", twice_unwanted())?;
+    report(
+        rt,
+        b"marking: Format before Twice and Missing",
+        format_first(),
+    )?;
+    report(rt, b"marking: Twice before Missing", twice_before_missing())?;
+    Ok(())
 }

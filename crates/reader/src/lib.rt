@@ -11,7 +11,7 @@ use message::sysex8::Checked;
 use refusal::Fault;
 
 // Packet and byte where the next byte stands, and how many bytes are to be read.
-#[derive(Drop)]
+#[derive(Clone, Copy)]
 pub struct Cursor {
     pub packet: usize,
     pub byte: usize,

@@ -42,6 +42,7 @@ fn hand_words(words: &[u32], text: &mut [u8]) -> Listed
 }
 
 // Restores a dump from a store of at most 1,048,576 bytes; a longer one is Long.
+#[tactic(auto, unfolding(crate::specs::Output::restore_limited))]
 fn restore_limited(store: &[u8], number: usize, words: &mut [u32]) -> Restored
     ensures { (restored_meaning result, words.new) ≡ restore_limited store.now number words.old }
 {

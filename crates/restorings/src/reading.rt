@@ -2,6 +2,7 @@
 use chain::{Basis, Description};
 use compare::report;
 use reclaims::marks;
+use std::io;
 use stores::answers::{check_gives, describes, restores};
 
 // Dump 1 is marked, and both dumps are restored as before.
@@ -50,7 +51,8 @@ fn described() -> bool {
 }
 
 // Writes a line for each sample of how a marked dump is read.
-pub(crate) fn report_read() {
-    report(b"a marked dump is restored as before", restored());
-    report(b"a marked dump is described as before", described());
+pub(crate) fn report_read(rt: &impl Print) -> io::Result<()> {
+    report(rt, b"a marked dump is restored as before", restored())?;
+    report(rt, b"a marked dump is described as before", described())?;
+    Ok(())
 }

@@ -2,6 +2,7 @@
 // delta 3 is over delta 2, 0..1 by nothing. Other dumps have no data and no edits.
 use compare::report;
 use reclaims::{collects, frees, keeps_message, keeps_refusal};
+use std::io;
 use stores::answers::{check_gives, check_refuses, refuses, restores};
 
 // 41 43 42; dump 4 is freed.
@@ -76,17 +77,23 @@ fn range() -> bool {
 }
 
 // Writes a line for each sample of a dump that stays: the same words, or the same refusal.
-pub(crate) fn report_same() {
-    report(b"a wanted dump is restored as before", wanted());
-    report(b"a chain is restored as before", chain());
+pub(crate) fn report_same(rt: &impl Print) -> io::Result<()> {
+    report(rt, b"a wanted dump is restored as before", wanted())?;
+    report(rt, b"a chain is restored as before", chain())?;
     report(
+        rt,
         b"an unwanted dump that stays is restored as before",
         unwanted_kept(),
-    );
-    report(b"a ring stays one", ring());
-    report(b"a ring stays one for an unwanted dump", ring_unwanted());
-    report(b"a walk that ends Missing does so after", missing());
-    report(b"Range stays", range());
+    )?;
+    report(rt, b"a ring stays one", ring())?;
+    report(
+        rt,
+        b"a ring stays one for an unwanted dump",
+        ring_unwanted(),
+    )?;
+    report(rt, b"a walk that ends Missing does so after", missing())?;
+    report(rt, b"Range stays", range())?;
+    Ok(())
 }
 
 // 41 43 42 before.
@@ -183,14 +190,16 @@ fn in_turn() -> bool {
 }
 
 // Writes a line for each sample of a number that is freed.
-pub(crate) fn report_freed() {
-    report(b"a freed dump is Missing", freed());
+pub(crate) fn report_freed(rt: &impl Print) -> io::Result<()> {
+    report(rt, b"a freed dump is Missing", freed())?;
     report(
+        rt,
         b"a freed dump is Missing where nothing is left",
         all_freed(),
-    );
-    report(b"a freed number is used again", used_again());
-    report(b"a number that stays is Twice", not_used_again());
-    report(b"a walk that ended Missing is mended", mended());
-    report(b"a base is freed after its delta", in_turn());
+    )?;
+    report(rt, b"a freed number is used again", used_again())?;
+    report(rt, b"a number that stays is Twice", not_used_again())?;
+    report(rt, b"a walk that ended Missing is mended", mended())?;
+    report(rt, b"a base is freed after its delta", in_turn())?;
+    Ok(())
 }

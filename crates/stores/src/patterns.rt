@@ -5,7 +5,7 @@
 // its own number put in at 0; a whole dump 1 of full data records; a whole dump 1 without data and a delta 2 that puts them in. Of the
 // chain also: from this number down to 0; with the dumps below this number unwanted. And a star: a whole dump 0 without data, and deltas
 // of it, numbered from 1, or by even numbers alone.
-#[derive(Drop)]
+#[derive(Clone, Copy)]
 pub enum Pattern {
     Wholes,
     Again,

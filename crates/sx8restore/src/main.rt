@@ -1,6 +1,8 @@
 // Restores a dump of the store on standard input: a delta on a delta on a whole dump.
 #![tactic(auto)]
 
-fn main() {
-    restorer::run();
+use std::io;
+
+fn main(rt: HostRuntime) -> io::Result<()> {
+    restorer::run(&rt)
 }

@@ -1,6 +1,8 @@
 // The program on a ring of two: refused 25.
 #![tactic(auto)]
 
-fn main() {
-    restorer::run();
+use std::io;
+
+fn main(rt: HostRuntime) -> io::Result<()> {
+    restorer::run(&rt)
 }

@@ -26,7 +26,7 @@ returns-4 c =
     let b = d.args.bytes.now in
     let n = counted o.before.before.before.before.before in
     let e : take (length b / 4) k.store_words.new.words ≡ words_of b = rw k.store_words.ensures (take_at (words_of b) _ (length b / 4) n) in
-    let l = load_whole b d.args.words.now o.if-size-gt65536.false o.if-size-lt16.false o.if-size-ne0.false in
+    let l = load_whole b d.args.words.now (omega arith) o.if-size-lt16.false o.if-size-ne0.false in
     ap₂ (λ x y. (x, y))
     (c.check.ensures ∙ ap (λ (w : List ℕ). checked sysex8 w (length b / 4)) e ∙ ap (λ (m : ℕ). checked sysex8 (words_of b) m) (sym n))
     k.store_words.ensures
@@ -36,12 +36,12 @@ pub load_spec : {M : Type 1} → statement M
 load_spec =
     tie.close
     (tie.spec
-    (λ c. sym (load_long _ _ c.if-size-gt65536.true))
-    (λ c. sym (load_short _ _ c.if-size-gt65536.false c.if-size-lt16.true))
-    (λ c. sym (load_ragged _ _ c.if-size-gt65536.false c.if-size-lt16.false c.if-size-ne0.true))
+    (λ c. sym (load_long _ _ (omega arith)))
+    (λ c. sym (load_short _ _ (omega arith) c.if-size-lt16.true))
+    (λ c. sym (load_ragged _ _ (omega arith) c.if-size-lt16.false c.if-size-ne0.true))
     (λ c κs. search rules)
     (λ c. search rules)
-    (λ c. let k = c in sym (length-take-le _ _ (omega (arith, k.store_words.auto.words, k.if-size-gt65536.false, k.requires))))
+    (λ c. let k = c in sym (length-take-le _ _ (omega (arith, k.store_words.auto.words, k.requires))))
     (λ c κs. search rules)
     (λ c. search rules)
     returns-4)

@@ -1,0 +1,18 @@
+-- `restorer::output::write`: the line of a refusal, or the words' bytes. Assumes nothing.
+use Rattle.std.proofs.Common.{sym}
+use lib.Seq.{length-take-le}
+use Rattle.restorer.proofs.Outputs.{within, output-words, output-line}
+use Rattle.restorer.proofs.output.write.Goals as goal
+
+-- a dump that is restored lies within the words
+pub slice_bounds-words-end : goal.slice_bounds-words-end
+slice_bounds-words-end c = within _ _ _ _ _ c.in-Words.ensures
+
+pub slice_bounds-hand_words-end : goal.slice_bounds-hand_words-end
+slice_bounds-hand_words-end c = sym (length-take-le _ _ (within _ _ _ _ _ c.in-Words.ensures))
+
+pub returns-in-Refused : goal.returns-in-Refused
+returns-in-Refused c = rw (output-line _ _ c.in-Refused.ensures) c.refuse.ensures
+
+pub returns-in-Words : goal.returns-in-Words
+returns-in-Words c = rw (output-words _ _ c.in-Words.ensures) c.hand_words.ensures

@@ -1,0 +1,11 @@
+-- `restorer::write_dump`: the text holds what was written. Assumes nothing.
+use Rattle.std.proofs.Common.{sym}
+use lib.Seq.{length-take-le}
+use Rattle.listing.proofs.Loading.{handed-fits}
+use Rattle.restorer.proofs.write_dump.Goals as goal
+
+pub slice_bounds-write_all-end : goal.slice_bounds-write_all-end
+slice_bounds-write_all-end g c = handed-fits _ _ _ _ c.in-Text.ensures
+
+pub slice_bounds-write_all-end-2 : goal.slice_bounds-write_all-end-2
+slice_bounds-write_all-end-2 g c = sym (length-take-le _ _ (handed-fits _ _ _ _ c.in-Text.ensures))

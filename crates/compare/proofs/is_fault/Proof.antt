@@ -11,4 +11,4 @@ is_fault_spec =
     (tie.spec
     (λ c κs. search rules)
     (λ c. no_told (λ p. c.if-number.true (c.number.ensures ∙ p.0)))
-    (λ c. let k = c in told_as (λ e. (sym k.number.ensures ∙ c.if-number.false, e)) (λ p. p.1) (equal_told _ _)))
+    (λ c. told_as (λ e. (sym c.number.ensures ∙ c.if-number.false, e)) (λ p. p.1) (equal_told _ _)))

@@ -7,16 +7,15 @@ use Rattle.compare.proofs.is_packet7.Statement.{statement}
 use Rattle.compare.proofs.is_packet7.Tie as tie
 
 returns_2 : tie.Need-returns-then-kind_code-kind
-returns_2 c = let o = c in rw (sym o.read_packet-read.ensures ∙ ap packet_meaning7 o.in-Packet.is) (no_told (λ p. c.if-kind_code-kind.true (c.kind_code.ensures ∙ p.0)))
+returns_2 c = rw (sym c.read_packet-read.ensures ∙ ap packet_meaning7 c.in-Packet.is) (no_told (λ p. c.if-kind_code-kind.true (c.kind_code.ensures ∙ p.0)))
 
 returns-3 : tie.Need-returns-then-found-group
-returns-3 c = let o = c in rw (sym o.read_packet-read.ensures ∙ ap packet_meaning7 o.in-Packet.is) (no_told (λ p. c.if-found-group.true p.1))
+returns-3 c = rw (sym c.read_packet-read.ensures ∙ ap packet_meaning7 c.in-Packet.is) (no_told (λ p. c.if-found-group.true p.1))
 
 returns-4 : tie.Need-returns
 returns-4 c =
-    let o = c in
     let kind = sym c.kind_code.ensures ∙ c.if-kind_code-kind.false in
-    rw (sym o.read_packet-read.ensures ∙ ap packet_meaning7 o.in-Packet.is) (told_as (λ e. (kind, c.if-found-group.false, refl, e)) (λ p. p.3) (equal_told _ _))
+    rw (sym c.read_packet-read.ensures ∙ ap packet_meaning7 c.in-Packet.is) (told_as (λ e. (kind, c.if-found-group.false, refl, e)) (λ p. p.3) (equal_told _ _))
 
 pub is_packet7_spec : {M : Type 1} → statement M
 is_packet7_spec =

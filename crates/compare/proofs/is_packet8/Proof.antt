@@ -10,19 +10,18 @@ use Rattle.compare.proofs.is_packet8.Statement.{statement}
 use Rattle.compare.proofs.is_packet8.Tie as tie
 
 returns_2 : tie.Need-returns-then-kind_code-kind
-returns_2 c = let o = c in rw (sym o.read_packet-read.ensures ∙ ap packet_meaning8 o.in-Packet.is) (no_told (λ p. c.if-kind_code-kind.true (c.kind_code.ensures ∙ p.0)))
+returns_2 c = rw (sym c.read_packet-read.ensures ∙ ap packet_meaning8 c.in-Packet.is) (no_told (λ p. c.if-kind_code-kind.true (c.kind_code.ensures ∙ p.0)))
 
 returns-3 : tie.Need-returns-then-found-group
-returns-3 c = let o = c in rw (sym o.read_packet-read.ensures ∙ ap packet_meaning8 o.in-Packet.is) (no_told (λ p. c.if-found-group.true p.1))
+returns-3 c = rw (sym c.read_packet-read.ensures ∙ ap packet_meaning8 c.in-Packet.is) (no_told (λ p. c.if-found-group.true p.1))
 
 returns-4 : tie.Need-returns-then-found-id
-returns-4 c = let o = c in rw (sym o.read_packet-read.ensures ∙ ap packet_meaning8 o.in-Packet.is) (no_told (λ p. c.if-found-id.true (ap (λ (l : List ℕ). get_or l 0 0) p.2)))
+returns-4 c = rw (sym c.read_packet-read.ensures ∙ ap packet_meaning8 c.in-Packet.is) (no_told (λ p. c.if-found-id.true (ap (λ (l : List ℕ). get_or l 0 0) p.2)))
 
 returns-5 : tie.Need-returns
 returns-5 c =
-    let o = c in
     let kind = sym c.kind_code.ensures ∙ c.if-kind_code-kind.false in
-    rw (sym o.read_packet-read.ensures ∙ ap packet_meaning8 o.in-Packet.is)
+    rw (sym c.read_packet-read.ensures ∙ ap packet_meaning8 c.in-Packet.is)
     (told_as (λ e. (kind, c.if-found-group.false, ap (λ (i : ℕ). i ∷ []) c.if-found-id.false, e)) (λ p. p.3) (equal_told _ _))
 
 pub is_packet8_spec : {M : Type 1} → statement M

@@ -10,8 +10,7 @@ use Rattle.compare.proofs.is_refused.Tie as tie
 
 returns_2 : tie.Need-returns
 returns_2 c =
-    let o = c in
-    rw (sym o.check-checked.ensures ∙ ap check_meaning8 o.in-Refused.is)
+    rw (sym c.check-checked.ensures ∙ ap check_meaning8 c.in-Refused.is)
     (told_as (λ p. ap₂ refused p.0 p.1) (λ e. (cc, cc)) c.is_fault.ensures)
 
 pub is_refused_spec : {M : Type 1} → statement M

@@ -10,8 +10,7 @@ use Rattle.compare.proofs.is_refused7.Tie as tie
 
 returns_2 : tie.Need-returns
 returns_2 c =
-    let o = c in
-    rw (sym o.read_packet-read.ensures ∙ ap packet_meaning7 o.in-Refused.is)
+    rw (sym c.read_packet-read.ensures ∙ ap packet_meaning7 c.in-Refused.is)
     (told_as (λ p. ap₂ refused p.0 p.1) (λ e. (cc, cc)) c.is_fault.ensures)
 
 pub is_refused7_spec : {M : Type 1} → statement M

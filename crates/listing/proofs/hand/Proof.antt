@@ -11,4 +11,4 @@ hand_spec =
     (λ c. handed_room _ _ c.if-text-piece.true)
     (λ c κs. search rules)
     (λ c. search rules)
-    (λ c. let k = c in handed_given _ _ k.if-text-piece.false k.put_bytes.ensures))
+    (λ c. handed_given _ _ c.if-text-piece.false c.put_bytes.ensures))

@@ -17,4 +17,4 @@ list_spec =
     (λ c. sym (length-take-le _ _ (front_fits c.put_listing-size.ensures refl)))
     (λ c κs. search rules)
     (λ c. search rules)
-    (λ c. let h = c in rw (front_is h.put_listing-size.ensures refl) at h.hand.ensures))
+    (λ c. rw (front_is c.put_listing-size.ensures refl) at c.hand.ensures))

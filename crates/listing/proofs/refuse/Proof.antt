@@ -16,4 +16,4 @@ refuse_spec =
     (λ c. sym (length-take-le _ _ (front_fits c.put_fault-size.ensures refl)))
     (λ c κs. search rules)
     (λ c. search rules)
-    (λ c. let h = c in rw (front_is h.put_fault-size.ensures refl) at h.hand.ensures))
+    (λ c. rw (front_is c.put_fault-size.ensures refl) at c.hand.ensures))

@@ -16,15 +16,12 @@ decreases-loop bytes front at₀ at = length bytes - at
 
 returns : tie.Need-returns-then-bytes-at invariant-loop decreases-loop
 returns c =
-    let w = c in
-    let o = w in
-    one_fails _ o.loop-at.at o.loop-at-test.true (λ e. c.if-bytes-at.true (e ∙ sym w.byte_or_zero.ensures))
+    one_fails _ c.loop-at.at c.loop-at-test.true (λ e. c.if-bytes-at.true (e ∙ sym c.byte_or_zero.ensures))
 
 loop-again : tie.Need-loop-at-preserved invariant-loop decreases-loop
 loop-again c =
-    let w = c in
-    let l = w.loop-at in
-    (search rules, below_more _ _ l.invariant.1 (c.if-bytes-at.false ∙ w.byte_or_zero.ensures))
+    let l = c.loop-at in
+    (search rules, below_more _ _ l.invariant.1 (c.if-bytes-at.false ∙ c.byte_or_zero.ensures))
 
 pub padded_bytes_spec : {M : Type 1} → statement M
 padded_bytes_spec =

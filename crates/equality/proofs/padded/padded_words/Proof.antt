@@ -16,15 +16,12 @@ decreases-loop words front at₀ at = length words - at
 
 returns : tie.Need-returns-then-words-at invariant-loop decreases-loop
 returns c =
-    let w = c in
-    let o = w in
-    one_fails _ o.loop-at.at o.loop-at-test.true (λ e. c.if-words-at.true (e ∙ sym w.word_or_zero.ensures))
+    one_fails _ c.loop-at.at c.loop-at-test.true (λ e. c.if-words-at.true (e ∙ sym c.word_or_zero.ensures))
 
 loop-again : tie.Need-loop-at-preserved invariant-loop decreases-loop
 loop-again c =
-    let w = c in
-    let l = w.loop-at in
-    (search rules, below_more _ _ l.invariant.1 (c.if-words-at.false ∙ w.word_or_zero.ensures))
+    let l = c.loop-at in
+    (search rules, below_more _ _ l.invariant.1 (c.if-words-at.false ∙ c.word_or_zero.ensures))
 
 pub padded_words_spec : {M : Type 1} → statement M
 padded_words_spec =

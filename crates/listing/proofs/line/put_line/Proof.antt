@@ -27,13 +27,13 @@ abbrev rest1 : tie.Start → List ℕ
 rest1 s = number s.args.packet.group 32 ++ rest2 s
 
 -- it has room
-room1 : (c : tie.After-put_number-group_at) → let s = c in c.put_number-group_at.result + length (rest1 s.before.before.before) ≤ length c.put_number-group_at.new.text
+room1 : (c : tie.After-put_number-group_at) → c.put_number-group_at.result + length (rest1 c.before.before.before) ≤ length c.put_number-group_at.new.text
 unfolding line
-room1 c = let s = c in room_then c.put_number-group_at.ensures (rest1 s.before.before.before) s.requires
+room1 c = room_then c.put_number-group_at.ensures (rest1 c.before.before.before) c.requires
 
-room2 : (c : tie.After-put_number-status_at) → let s = c in
-    c.put_number-status_at.result + length (rest2 s.before.before.before.before.before.before.before.before) ≤ length c.put_number-status_at.new.text
-room2 c = let k = c in room_then c.put_number-status_at.ensures (rest2 k.before.before.before.before.before.before.before.before) (room1 k.before.before.before.before.before)
+room2 : (c : tie.After-put_number-status_at) →
+    c.put_number-status_at.result + length (rest2 c.before.before.before.before.before.before.before.before) ≤ length c.put_number-status_at.new.text
+room2 c = room_then c.put_number-status_at.ensures (rest2 c.before.before.before.before.before.before.before.before) (room1 c.before.before.before.before.before)
 
 abbrev start : tie.After-put_status-count_at → tie.Start
 start c = c.before.before.before.before.before.before.before.before.before.before.before.before
@@ -42,28 +42,23 @@ room3 : (c : tie.After-put_status-count_at) → c.put_status-count_at.result + l
 room3 c = room_then c.put_status-count_at.ensures (rest3 (start c)) (room2 c.before.before.before.before)
 
 room4 : (c : tie.After-put_number-id_at) → c.put_number-id_at.result + length (rest4 (start c.before.before.before.before)) ≤ length c.put_number-id_at.new.text
-room4 c = let k = c in room_then c.put_number-id_at.ensures (rest4 (start k.before.before.before.before)) (room3 k.before.before.before.before)
+room4 c = room_then c.put_number-id_at.ensures (rest4 (start c.before.before.before.before)) (room3 c.before.before.before.before)
 
 requires : tie.Need-put_number-group_at-requires
 unfolding line
-requires c κs = let s = c in room_first _ _ (number s.args.index 32) (rest1 s.before.before) s.requires
+requires c κs = room_first _ _ (number c.args.index 32) (rest1 c.before.before) c.requires
 
 requires-2 : tie.Need-put_number-status_at-requires
 requires-2 c κs =
-    let k = c in
-    let s = k in
-    room_first _ _ (number s.args.packet.group 32) (rest2 s.before.before.before.before.before.before.before) (room1 k.before.before.before.before)
+    room_first _ _ (number c.args.packet.group 32) (rest2 c.before.before.before.before.before.before.before) (room1 c.before.before.before.before)
 
 requires-3 : tie.Need-put_status-count_at-requires
 requires-3 c κs =
-    let k = c in
-    let s = k in
-    room_first _ _ (status_name (status s.before.before.before.before.before.before.before.before.before.before.before)) (rest3 s.before.before.before.before.before.before.before.before.before.before.before) (room2 k.before.before.before)
+    room_first _ _ (status_name (status c.before.before.before.before.before.before.before.before.before.before.before)) (rest3 c.before.before.before.before.before.before.before.before.before.before.before) (room2 c.before.before.before)
 
 requires-4 : tie.Need-put_number-id_at-requires
 requires-4 c κs =
-    let k = c in
-    room_first _ _ (number (start k.before.before.before).args.packet.size 32) (rest4 (start k.before.before.before)) (room3 k.before.before.before)
+    room_first _ _ (number (start c.before.before.before).args.packet.size 32) (rest4 (start c.before.before.before)) (room3 c.before.before.before)
 
 requires-5 : tie.Need-put_id-requires
 unfolding id_end
@@ -72,14 +67,9 @@ requires-5 c κs = room4 c.before.before.before
 returns : tie.Need-returns
 unfolding line
 returns c =
-    let m = c in
-    let l = m in
-    let k = l in
-    let j = k in
-    let i = j in
-    wrote_then i.put_number-group_at.ensures (start k.before.before.before.before.before.before.before.before.before.before).requires
-    (wrote_then j.put_number-status_at.ensures (room1 i.before.before.before.before.before.before.before.before.before.before.before.before.before.before.before.before.before.before.before)
-    (wrote_then k.put_status-count_at.ensures (room2 j.before.before.before.before.before.before.before.before.before.before.before.before.before.before) (wrote_then l.put_number-id_at.ensures (room3 k.before.before.before.before.before.before.before.before.before.before) m.put_id.ensures)))
+    wrote_then c.put_number-group_at.ensures (start c.before.before.before.before.before.before.before.before.before.before).requires
+    (wrote_then c.put_number-status_at.ensures (room1 c.before.before.before.before.before.before.before.before.before.before.before.before.before.before.before.before.before.before.before)
+    (wrote_then c.put_status-count_at.ensures (room2 c.before.before.before.before.before.before.before.before.before.before.before.before.before.before) (wrote_then c.put_number-id_at.ensures (room3 c.before.before.before.before.before.before.before.before.before.before) c.put_id.ensures)))
 
 pub put_line_spec : {M : Type 1} → statement M
 put_line_spec =

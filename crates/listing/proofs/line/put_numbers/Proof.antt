@@ -27,34 +27,29 @@ unfolding two_numbers
 room1 c = room_then c.put_bytes-left_at.ensures (rest1 (start c)) (start c).requires
 
 room2 : (c : tie.After-put_number-second_at) → c.put_number-second_at.result + length (rest2 (start c.before.before.before.before)) ≤ length c.put_number-second_at.new.text
-room2 c = let k = c in room_then c.put_number-second_at.ensures (rest2 (start k.before.before.before.before)) (room1 k.before.before.before.before)
+room2 c = room_then c.put_number-second_at.ensures (rest2 (start c.before.before.before.before)) (room1 c.before.before.before.before)
 
-room3 : (c : tie.After-put_bytes-right_at) → let k = c in
-    c.put_bytes-right_at.result + length (rest3 (start k.before.before.before.before.before.before.before.before)) ≤ length c.put_bytes-right_at.new.text
-room3 c = let k = c in room_then c.put_bytes-right_at.ensures (rest3 (start k.before.before.before.before.before.before.before.before)) (room2 k.before.before.before.before)
+room3 : (c : tie.After-put_bytes-right_at) →
+    c.put_bytes-right_at.result + length (rest3 (start c.before.before.before.before.before.before.before.before)) ≤ length c.put_bytes-right_at.new.text
+room3 c = room_then c.put_bytes-right_at.ensures (rest3 (start c.before.before.before.before.before.before.before.before)) (room2 c.before.before.before.before)
 
 requires : tie.Need-put_bytes-left_at-requires
 unfolding two_numbers
-requires c κs = let s = c in room_first _ _ s.args.first.now (rest1 s.before.before.before.before) s.requires
+requires c κs = room_first _ _ c.args.first.now (rest1 c.before.before.before.before) c.requires
 
 requires-2 : tie.Need-put_number-second_at-requires
-requires-2 c κs = let k = c in room_first _ _ (number (start k.before.before.before).args.left 32) (rest2 (start k.before.before.before)) (room1 k.before.before.before)
+requires-2 c κs = room_first _ _ (number (start c.before.before.before).args.left 32) (rest2 (start c.before.before.before)) (room1 c.before.before.before)
 
 requires-3 : tie.Need-put_bytes-right_at-requires
 requires-3 c κs =
-    let k = c in
-    let s = start k.before.before.before.before.before.before.before in
-    room_first _ _ s.args.second.now (rest3 s) (room2 k.before.before.before)
+    let s = start c.before.before.before.before.before.before.before in
+    room_first _ _ s.args.second.now (rest3 s) (room2 c.before.before.before)
 
 returns : tie.Need-returns
 unfolding two_numbers
 returns c =
-    let l = c in
-    let k = l in
-    let j = k in
-    let i = j in
-    wrote_then i.put_bytes-left_at.ensures (start i.before.before.before.before.before.before.before.before.before.before.before.before.before.before).requires
-    (wrote_then j.put_number-second_at.ensures (room1 i.before.before.before.before.before.before.before.before.before.before.before.before.before.before) (wrote_then k.put_bytes-right_at.ensures (room2 j.before.before.before.before.before.before.before.before.before.before) l.put_number.ensures))
+    wrote_then c.put_bytes-left_at.ensures (start c.before.before.before.before.before.before.before.before.before.before.before.before.before.before).requires
+    (wrote_then c.put_number-second_at.ensures (room1 c.before.before.before.before.before.before.before.before.before.before.before.before.before.before) (wrote_then c.put_bytes-right_at.ensures (room2 c.before.before.before.before.before.before.before.before.before.before) c.put_number.ensures))
 
 pub put_numbers_spec : {M : Type 1} → statement M
 put_numbers_spec =

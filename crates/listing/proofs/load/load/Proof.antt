@@ -20,16 +20,13 @@ counted c = length-words_of _ _ (omega (arith, c.if-size-ne0.false))
 
 returns-4 : tie.Need-returns
 returns-4 c =
-    let k = c in
-    let o = k in
-    let d = o in
-    let b = d.args.bytes.now in
-    let n = counted o.before.before.before.before.before in
-    let e : take (length b / 4) k.store_words.new.words ≡ words_of b = rw k.store_words.ensures (take_at (words_of b) _ (length b / 4) n) in
-    let l = load_whole b d.args.words.now (omega arith) o.if-size-lt16.false o.if-size-ne0.false in
+    let b = c.args.bytes.now in
+    let n = counted c.before.before.before.before.before in
+    let e : take (length b / 4) c.store_words.new.words ≡ words_of b = rw c.store_words.ensures (take_at (words_of b) _ (length b / 4) n) in
+    let l = load_whole b c.args.words.now (omega arith) c.if-size-lt16.false c.if-size-ne0.false in
     ap₂ (λ x y. (x, y))
     (c.check.ensures ∙ ap (λ (w : List ℕ). checked sysex8 w (length b / 4)) e ∙ ap (λ (m : ℕ). checked sysex8 (words_of b) m) (sym n))
-    k.store_words.ensures
+    c.store_words.ensures
     ∙ sym l
 
 pub load_spec : {M : Type 1} → statement M
@@ -41,7 +38,7 @@ load_spec =
     (λ c. sym (load_ragged _ _ (omega arith) c.if-size-lt16.false c.if-size-ne0.true))
     (λ c κs. search rules)
     (λ c. search rules)
-    (λ c. let k = c in sym (length-take-le _ _ (omega (arith, k.store_words.auto.words, k.requires))))
+    (λ c. sym (length-take-le _ _ (omega (arith, c.store_words.auto.words, c.requires))))
     (λ c κs. search rules)
     (λ c. search rules)
     returns-4)

@@ -21,23 +21,20 @@ decreases-loop bytes words₀ count index₀ words index = count - index
 
 loop-again : tie.Need-loop-index-preserved invariant-loop decreases-loop
 loop-again c =
-    let o = c in
-    let l = o.loop-index in
-    let d = o in
-    let b = d.args.bytes.now in
-    let h : l.index < length (words_of b) = rw (length-words_of b d.args.count d.requires.0) o.loop-index-test.true in
-    let w : c.word_of.result ≡ get_or (words_of b) l.index 0 = c.word_of.ensures ∙ sym (get_d_words_of b l.index (omega (arith, d.requires.0, o.loop-index-test.true))) in (
-      omega (arith, o.loop-index-test.true),
+    let l = c.loop-index in
+    let b = c.args.bytes.now in
+    let h : l.index < length (words_of b) = rw (length-words_of b c.args.count c.requires.0) c.loop-index-test.true in
+    let w : c.word_of.result ≡ get_or (words_of b) l.index 0 = c.word_of.ensures ∙ sym (get_d_words_of b l.index (omega (arith, c.requires.0, c.loop-index-test.true))) in (
+      omega (arith, c.loop-index-test.true),
       length-set l.words _ _ ∙ l.invariant.1,
-      rw (w, l.invariant.2) (front_more (words_of b) d.args.words.now l.index h (omega (arith, d.requires.1, o.loop-index-test.true))),
+      rw (w, l.invariant.2) (front_more (words_of b) c.args.words.now l.index h (omega (arith, c.requires.1, c.loop-index-test.true))),
     )
 
 returns : tie.Need-returns invariant-loop decreases-loop
 returns c =
     let l = c.loop-index in
-    let d = c in
-    let b = d.args.bytes.now in
-    let e : l.index ≡ length (words_of b) = sym (length-words_of b d.args.count d.requires.0 ∙ omega (arith, l.invariant.0, c.loop-index-test.false)) in
+    let b = c.args.bytes.now in
+    let e : l.index ≡ length (words_of b) = sym (length-words_of b c.args.count c.requires.0 ∙ omega (arith, l.invariant.0, c.loop-index-test.false)) in
     l.invariant.2 ∙ rw (e, take-length)
 
 pub store_words_spec : {M : Type 1} → statement M

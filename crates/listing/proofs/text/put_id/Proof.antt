@@ -10,8 +10,7 @@ use Rattle.listing.proofs.text.put_id.Tie as tie
 returns : tie.Need-returns
 unfolding id_end
 returns c =
-    let a = c in
-    rw (c.hex_digit.ensures, c.hex_digit-2.ensures) (wrote_three a.args.text.now a.args.at _ _ _ a.requires)
+    rw (c.hex_digit.ensures, c.hex_digit-2.ensures) (wrote_three c.args.text.now c.args.at _ _ _ c.requires)
 
 pub put_id_spec : {M : Type 1} → statement M
 put_id_spec =

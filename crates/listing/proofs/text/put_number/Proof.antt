@@ -11,18 +11,17 @@ use Rattle.listing.proofs.text.put_number.Tie as tie
 
 requires : tie.Need-put_decimal-end-requires
 unfolding number
-requires c κs = let s = c in room_first _ _ (decimal s.args.number) (s.args.after ∷ []) s.requires
+requires c κs = room_first _ _ (decimal c.args.number) (c.args.after ∷ []) c.requires
 
 -- the character has room
-last : (c : tie.After-slice_known-2-1) → let k = c in k.put_decimal-end.result + 1 ≤ length k.put_decimal-end.new.text
+last : (c : tie.After-slice_known-2-1) → c.put_decimal-end.result + 1 ≤ length c.put_decimal-end.new.text
 unfolding number
-last c = let s = c in room_then c.put_decimal-end.ensures (s.args.after ∷ []) s.requires
+last c = room_then c.put_decimal-end.ensures (c.args.after ∷ []) c.requires
 
 returns : tie.Need-returns
 unfolding number
 returns c =
-    let s = c in
-    wrote_then c.put_decimal-end.ensures s.requires (wrote_one _ _ _ (last c))
+    wrote_then c.put_decimal-end.ensures c.requires (wrote_one _ _ _ (last c))
 
 pub put_number_spec : {M : Type 1} → statement M
 put_number_spec =

@@ -1,8 +1,7 @@
 -- The structs that the exported calls answer: the number of the refusal, 0 if the call is accepted, its place, and the values, which
 -- are 0 where it is refused.
 -- Assumes nothing.
-use Rattle.std.specs.Prelude.{Bool, true, false, List, ℕ, ◌*◌, ℤ, pos, get_or}
-use Rattle.std.proofs.Math.Option.{Option, none, some}
+use Rattle.std.specs.Prelude.{Option, None, Some, Bool, true, false, List, ℕ, ◌*◌, ℤ, pos, get_or}
 use Rattle.refusal.specs.Answer.{Answer, gives, refused, Verdict}
 use Rattle.ump.specs.Single as single
 use Rattle.ump.specs.Check.{Summary}
@@ -112,12 +111,12 @@ read_answer read = step_answer read.step read.cursor
 
 -- whether a dump is a delta, and its base, 0 where it is whole
 abbrev pub has_base : Option ℕ → Bool
-has_base none = false
-has_base (some base) = true
+has_base None = false
+has_base (Some base) = true
 
 abbrev pub base_number : Option ℕ → ℕ
-base_number none = 0
-base_number (some base) = base
+base_number None = 0
+base_number (Some base) = base
 
 abbrev pub dump_answer : Answer Description → DumpAnswer
 dump_answer (gives dump) =

@@ -1,7 +1,6 @@
 -- How a caller reads the structs that the exported calls answer: refused where the number is not 0.
 -- Assumes nothing.
-use Rattle.std.specs.Prelude.{cond, ℕ, eqb}
-use Rattle.std.proofs.Math.Option.{none, some}
+use Rattle.std.specs.Prelude.{None, Some, cond, ℕ, eqb}
 use Rattle.refusal.specs.Answer.{Answer, gives, refused, Verdict}
 use Rattle.ump.specs.Splice.{Spliced}
 use Rattle.ump.specs.Edits.{Range}
@@ -55,7 +54,7 @@ abbrev pub dump_read : DumpAnswer → Answer Description
 dump_read said =
     read_as said.refusal said.place
     (record {
-      base = cond said.delta (some said.base) none;
+      base = cond said.delta (Some said.base) None;
       group = said.group;
       id = said.id;
       size = said.size;

@@ -4,12 +4,12 @@
 
 pub mod many;
 
-use equality::words::same_words;
 use ports::Received;
+use refusal::{Fault, Refusal};
 
 // The table, the words and the output; how many of the words and of the output are lent; whether all answers and all words so far were as
 // expected.
-#[derive(Clone, Copy)]
+#[derive(Clone, Copy, PartialEq, Eq)]
 pub struct Desk {
     pub table: [u32; 32],
     pub words: [u32; 128],
@@ -17,20 +17,6 @@ pub struct Desk {
     pub lent: usize,
     pub room: usize,
     pub right: bool,
-}
-
-// No stream is open; all 128 words, 8 for each stream, and all 16 words of the output are lent. What they hold stands for anything.
-pub fn new() -> Desk {
-    let mut table = [7u32; 32];
-    ports::clear(&mut table);
-    Desk {
-        table,
-        words: [8; 128],
-        output: [9; 16],
-        lent: 128,
-        room: 16,
-        right: true,
-    }
 }
 
 // The packet with this first word: zeros behind a word that ends in 00, else three words that no other packet has.
@@ -46,154 +32,81 @@ pub fn packet(head: u32) -> [u32; 4] {
     ]
 }
 
-// One call to which so many of these words are lent, and so many of this output. Where there are fewer the answer is one that no call
-// gives.
-fn lend(
-    table: &mut [u32; 32],
-    words: &mut [u32],
-    lent: usize,
-    port: u8,
-    packet: &[u32],
-    output: &mut [u32],
-    room: usize,
-) -> Received {
-    if lent > words.len() {
-        return Received::HandedOut(0);
-    }
-    if room > output.len() {
-        return Received::HandedOut(0);
-    }
-    ports::receive(table, &mut words[..lent], port, packet, &mut output[..room])
-}
-
-// One call with this packet: its answer, and what is left on the desk.
-fn call(desk: &Desk, port: u8, packet: &[u32]) -> (Received, Desk) {
-    let mut after = Desk { ..*desk };
-    let received = lend(
-        &mut after.table,
-        &mut after.words,
-        desk.lent,
-        port,
-        packet,
-        &mut after.output,
-        desk.room,
-    );
-    (received, after)
-}
-
-// The output is this one.
-fn has_output(desk: &Desk, expected: [u32; 16]) -> bool {
-    let output = desk.output;
-    same_words(&output, &expected)
-}
-
-// Nothing that is lent has changed.
-fn has_stayed(desk: &Desk, before: &Desk) -> bool {
-    let table = desk.table;
-    let table_before = before.table;
-    if !same_words(&table, &table_before) {
-        return false;
-    }
-    let words = desk.words;
-    let words_before = before.words;
-    if !same_words(&words, &words_before) {
-        return false;
-    }
-    let output_before = before.output;
-    has_output(desk, output_before)
-}
-
-// Another comparison, which is right or not.
-fn judged(desk: Desk, right: bool) -> Desk {
-    let mut told = desk;
-    if !right {
-        told.right = false;
-    }
-    told
-}
-
-// The packet is kept, and the output stays.
-pub fn keep_words(desk: Desk, port: u8, packet: &[u32]) -> Desk {
-    let (received, after) = call(&desk, port, packet);
-    let right = match received {
-        Received::Kept => has_output(&after, desk.output),
-        _ => false,
-    };
-    judged(after, right)
-}
-
-// The same of the packet with this first word.
-pub fn keep(desk: Desk, port: u8, head: u32) -> Desk {
-    keep_words(desk, port, &packet(head))
-}
-
-// The packet is refused with this number, and nothing changes.
-pub fn refuse_words(desk: Desk, port: u8, packet: &[u32], number: u8) -> Desk {
-    let (received, after) = call(&desk, port, packet);
-    let right = match received {
-        Received::Refused(fault) => {
-            compare::is_fault(fault, number, 0) && has_stayed(&after, &desk)
+impl Desk {
+    // No stream is open; all 128 words, 8 for each stream, and all 16 words of the output are lent. What they hold stands for anything.
+    pub fn new() -> Desk {
+        let mut table = [7u32; 32];
+        ports::clear(&mut table);
+        Desk {
+            table,
+            words: [8; 128],
+            output: [9; 16],
+            lent: 128,
+            room: 16,
+            right: true,
         }
-        _ => false,
-    };
-    judged(after, right)
-}
-
-// The same of the packet with this first word.
-pub fn refuse(desk: Desk, port: u8, head: u32, number: u8) -> Desk {
-    refuse_words(desk, port, &packet(head), number)
-}
-
-// The stream of the packet with this first word is dropped, and the output stays.
-pub fn drop_stream(desk: Desk, port: u8, head: u32) -> Desk {
-    let (received, after) = call(&desk, port, &packet(head));
-    let right = match received {
-        Received::Dropped => has_output(&after, desk.output),
-        _ => false,
-    };
-    judged(after, right)
-}
-
-// An output with the packet with this first word at an index.
-fn paste(output: [u32; 16], at: usize, head: u32) -> [u32; 16] {
-    let mut pasted = output;
-    let words = packet(head);
-    if at <= 12 {
-        pasted[at] = words[0];
-        pasted[at + 1] = words[1];
-        pasted[at + 2] = words[2];
-        pasted[at + 3] = words[3];
     }
-    pasted
-}
 
-// The packet hands out so many words, and the output is this one after the call.
-pub fn hand_out(desk: Desk, port: u8, packet: &[u32], count: usize, expected: [u32; 16]) -> Desk {
-    let (received, after) = call(&desk, port, packet);
-    let right = match received {
-        Received::HandedOut(found) => found == count && has_output(&after, expected),
-        _ => false,
-    };
-    judged(after, right)
-}
+    // One call with this packet.
+    fn call(&mut self, port: u8, packet: &[u32]) -> Result<Received, Fault> {
+        let mut after = *self;
+        let words = &mut after.words[..self.lent.min(128)];
+        let output = &mut after.output[..self.room.min(16)];
+        let received = ports::receive(&mut after.table, words, port, packet, output);
+        *self = after;
+        received
+    }
 
-// The packet with this first word is handed out alone.
-pub fn complete(desk: Desk, port: u8, head: u32) -> Desk {
-    let output = desk.output;
-    let expected = paste(output, 0, head);
-    hand_out(desk, port, &packet(head), 4, expected)
-}
+    // The packet is answered so, and the output is this one after the call.
+    fn answers(&mut self, port: u8, packet: &[u32], answer: Received, output: [u32; 16]) {
+        let received = self.call(port, packet);
+        self.right &= received == Ok(answer) && self.output == output;
+    }
 
-// The last of these packets hands out both.
-pub fn end_of_two(desk: Desk, port: u8, first: u32, last: u32) -> Desk {
-    let output = desk.output;
-    let expected = paste(paste(output, 0, first), 4, last);
-    hand_out(desk, port, &packet(last), 8, expected)
-}
+    // The packet is kept, and the output stays.
+    pub fn keep_words(&mut self, port: u8, packet: &[u32]) {
+        self.answers(port, packet, Received::Kept, self.output);
+    }
 
-// The last of these packets hands out all three.
-pub fn end_of_three(desk: Desk, port: u8, first: u32, second: u32, last: u32) -> Desk {
-    let output = desk.output;
-    let expected = paste(paste(paste(output, 0, first), 4, second), 8, last);
-    hand_out(desk, port, &packet(last), 12, expected)
+    // The same of the packet with this first word.
+    pub fn keep(&mut self, port: u8, head: u32) {
+        self.keep_words(port, &packet(head));
+    }
+
+    // The packet is refused so, and nothing changes.
+    pub fn refuse_words(&mut self, port: u8, packet: &[u32], refusal: Refusal) {
+        let before = *self;
+        let received = self.call(port, packet);
+        self.right &= received == Err(refusal.into()) && *self == before;
+    }
+
+    // The same of the packet with this first word.
+    pub fn refuse(&mut self, port: u8, head: u32, refusal: Refusal) {
+        self.refuse_words(port, &packet(head), refusal);
+    }
+
+    // The stream of the packet with this first word is dropped, and the output stays.
+    pub fn drop_stream(&mut self, port: u8, head: u32) {
+        self.answers(port, &packet(head), Received::Dropped, self.output);
+    }
+
+    // The packet hands out so many words, and the output is this one after the call.
+    pub fn hand_out(&mut self, port: u8, packet: &[u32], count: usize, expected: [u32; 16]) {
+        self.answers(port, packet, Received::HandedOut(count), expected);
+    }
+
+    // The packet with this first word is handed out alone.
+    pub fn complete(&mut self, port: u8, head: u32) {
+        self.end(port, &[], head);
+    }
+
+    // The packet with the last of these first words hands out all of them.
+    pub fn end(&mut self, port: u8, before: &[u32], last: u32) {
+        let mut expected = self.output;
+        let heads = before.iter().copied().chain([last]);
+        for (part, head) in expected.chunks_exact_mut(4).zip(heads) {
+            part.copy_from_slice(&packet(head));
+        }
+        self.hand_out(port, &packet(last), 4 * before.len() + 4, expected);
+    }
 }

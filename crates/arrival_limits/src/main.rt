@@ -8,9 +8,13 @@ mod limits;
 
 // Writes a line for each sample.
 fn main(rt: HostRuntime) -> io::Result<()> {
-    report(&rt, b"Long: 16,385 words", limits::long_words())?;
-    report(&rt, b"Long: 16,385 words of output", limits::long_output())?;
-    report(&rt, b"16,384 words of both", limits::not_long())?;
-    report(&rt, b"a part of 1,024 words, filled", limits::longest())?;
+    for (name, right) in [
+        ("Long: 16,385 words", limits::long_words()),
+        ("Long: 16,385 words of output", limits::long_output()),
+        ("16,384 words of both", limits::not_long()),
+        ("a part of 1,024 words, filled", limits::longest()),
+    ] {
+        report(&rt, name.as_bytes(), right)?;
+    }
     Ok(())
 }

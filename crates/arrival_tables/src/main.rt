@@ -11,41 +11,45 @@ mod tables;
 
 // How many words are lent.
 fn report_parts(rt: &impl Print) -> io::Result<()> {
-    report(rt, b"128 words, an exact fit", parts::exact())?;
-    report(rt, b"64 words, an exact fit", parts::smallest())?;
-    report(rt, b"127 words, rounded down", parts::rounded())?;
-    report(rt, b"63 words, 15 and none", parts::too_few())?;
-    report(rt, b"restart without room", parts::restart_without_room())?;
-    report(
-        rt,
-        b"output short, and just long enough",
-        parts::output_short(),
-    )?;
-    report(rt, b"output past the message", parts::output_stays())?;
+    for (name, right) in [
+        ("128 words, an exact fit", parts::exact()),
+        ("64 words, an exact fit", parts::smallest()),
+        ("127 words, rounded down", parts::rounded()),
+        ("63 words, 15 and none", parts::too_few()),
+        ("restart without room", parts::restart_without_room()),
+        ("output short, and just long enough", parts::output_short()),
+        ("output past the message", parts::output_stays()),
+    ] {
+        report(rt, name.as_bytes(), right)?;
+    }
     Ok(())
 }
 
 // The packet reader's refusals, and other ports.
 fn report_refusals(rt: &impl Print) -> io::Result<()> {
-    report(rt, b"3, 5, 15, 10", refusals::unread())?;
-    report(
-        rt,
-        b"3, 5, 15, 10 before Port",
-        refusals::unread_before_port(),
-    )?;
-    report(rt, b"Port", refusals::port())?;
-    report(rt, b"words behind the packet", refusals::words_behind())?;
+    for (name, right) in [
+        ("3, 5, 15, 10", refusals::unread()),
+        ("3, 5, 15, 10 before Port", refusals::unread_before_port()),
+        ("Port", refusals::port()),
+        ("words behind the packet", refusals::words_behind()),
+    ] {
+        report(rt, name.as_bytes(), right)?;
+    }
     Ok(())
 }
 
 // Any table.
 fn report_tables(rt: &impl Print) -> io::Result<()> {
-    report(rt, b"equal keys", tables::equal_keys())?;
-    report(rt, b"16 equal keys", tables::sixteen_equal())?;
-    report(rt, b"lengths above the part", tables::long_lengths())?;
-    report(rt, b"other lengths", tables::other_lengths())?;
-    report(rt, b"keys of no port", tables::no_port())?;
-    report(rt, b"a table of all ones", tables::all_ones())?;
+    for (name, right) in [
+        ("equal keys", tables::equal_keys()),
+        ("16 equal keys", tables::sixteen_equal()),
+        ("lengths above the part", tables::long_lengths()),
+        ("other lengths", tables::other_lengths()),
+        ("keys of no port", tables::no_port()),
+        ("a table of all ones", tables::all_ones()),
+    ] {
+        report(rt, name.as_bytes(), right)?;
+    }
     Ok(())
 }
 

@@ -2,170 +2,199 @@
 // Each call refuses (Field, place 0) exactly when the field index, or the value for the field, is too big.
 #![tactic(auto)]
 
-ghost use Rattle.std.specs.Prelude.{◌≡◌, ◌+◌, ◌*◌, ◌^◌, ◌≤◌, ◌<◌};
-ghost use Rattle.refusal.specs.Meaning.{byte_meaning};
-ghost use Rattle.ump.specs.Word.{bit_field, crumb_field, nibble_field, septet_field, octet_field, word_field, part, with_part, get_field, set_field};
-ghost use Rattle.bit_ops.specs.Meaning.{bit_number, bit_meaning, word_meaning, set_meaning};
+ghost use Rattle.std.specs.Prelude.{◌≡◌, ◌+◌, ◌*◌, ◌^◌, ◌≤◌, ◌<◌, MatchResult};
+ghost use Rattle.ump.specs.Word as ump;
+ghost use Rattle.ump.specs.Word.{bit_field, crumb_field, nibble_field, septet_field, octet_field, word_field, shift, get_field, set_field};
+ghost use Rattle.bit_ops.specs.Meaning.{bit_number, bit_meaning};
+ghost use Rattle.refusal.specs.Meaning.{answer_of};
+ghost use Rattle.refusal.specs.declared.Refusal.TheVariants as refusals;
 
-use refusal::{ByteRead, Fault, Refusal};
+use refusal::{Fault, Refusal};
+use std::marker::Model;
 
-// The answer of reading a bit.
-#[derive(Drop)]
-pub enum BitRead {
-    Value(bool),
-    Refused(Fault),
+// A kind of field: how many a word has, how many bits apart they begin, how many bits wide each is.
+#[derive(Clone, Copy, Debug, PartialEq, Eq)]
+struct Field {
+    count: u32,
+    step: u32,
+    width: u32,
 }
 
-// The answer of reading a word of 16 bits.
-#[derive(Drop)]
-pub enum WordRead {
-    Value(u16),
-    Refused(Fault),
+impl Model for Field {
+    ghost Value = { ump.Field };
+
+    ghost view = { λ f. record { count = f.count; step = f.step; width = f.width } };
+
+    ghost inverse = { λ f. record { count = f.count; step = f.step; width = f.width } };
+
+    // The fields stand within a word, and each has room for its bits.
+    ghost invariant = { λ f. (f.count * f.step ≤ 32) × (f.width ≤ f.step) × (f.width < 32) × (0 < f.step) };
 }
 
-// The answer of setting a field: the 32-bit word with the field set.
-#[derive(Drop)]
-pub enum FieldSet {
-    Word(u32),
-    Refused(Fault),
-}
-
-// The field index, or the value for a field, is too big.
-const TOO_BIG: Fault = Fault {
-    refusal: Refusal::Field,
-    place: 0,
+const BIT: Field = Field {
+    count: 32,
+    step: 1,
+    width: 1,
 };
 
-// The `width` bits of a word that stand `low` above the lowest.
-fn part_of(word: u32, low: u32, width: u32) -> u32
-    requires { (low < 32) × (width < 32) }
-    ensures { result ≡ part word low width }
-{
-    (word >> low) & ((1 << width) - 1)
-}
+const CRUMB: Field = Field {
+    count: 16,
+    step: 2,
+    width: 2,
+};
 
-// A word with a value in the `width` bits that stand `low` above the lowest.
-fn with_part(word: u32, low: u32, width: u32, value: u32) -> u32
-    requires { (low + width ≤ 32) × (low < 32) × (width < 32) × (value < 2 ^ width) }
-    ensures { result ≡ with_part word low width value }
-{
-    (word & !(((1 << width) - 1) << low)) | (value << low)
-}
+const NIBBLE: Field = Field {
+    count: 8,
+    step: 4,
+    width: 4,
+};
 
-// Field `index` of a word that has `count` of them, `step` bits apart and `width` bits wide, eight at most.
-fn byte_field(count: u32, step: u32, width: u32, word: u32, index: usize) -> ByteRead
-    requires { (count * step ≤ 32) × (0 < step) × (width ≤ step) × (width ≤ 8) }
-    ensures { byte_meaning result ≡ get_field (record { count = count; step = step; width = width }) word index }
-{
-    if index < count as usize {
-        ByteRead::Value(part_of(word, (count - 1 - index as u32) * step, width) as u8)
-    } else {
-        ByteRead::Refused(TOO_BIG)
-    }
-}
+const SEPTET: Field = Field {
+    count: 4,
+    step: 8,
+    width: 7,
+};
 
-// A word with a value in field `index`, of the `count` that it has, `step` bits apart and `width` bits wide.
-fn set_field(count: u32, step: u32, width: u32, word: u32, index: usize, value: u32) -> FieldSet
-    requires { (count * step ≤ 32) × (0 < step) × (width ≤ step) × (width < 32) }
-    ensures { set_meaning result ≡ set_field (record { count = count; step = step; width = width }) word index value }
-{
-    if index >= count as usize {
-        return FieldSet::Refused(TOO_BIG);
+const OCTET: Field = Field {
+    count: 4,
+    step: 8,
+    width: 8,
+};
+
+const WORD: Field = Field {
+    count: 2,
+    step: 16,
+    width: 16,
+};
+
+impl Field {
+    // The most that a field holds: its bits, all set.
+    fn most(self) -> u32
+        ensures { result + 1 ≡ 2 ^ self.width }
+    {
+        (1 << self.width) - 1
     }
-    if value >= 1 << width {
-        return FieldSet::Refused(TOO_BIG);
+
+    // How far field `index` stands above the lowest bit of the word; Field where a word has no such field.
+    fn low(self, index: usize) -> Result<u32, Refusal>
+        ensures { MatchResult result (λ low. (index < self.count) × (low ≡ shift self index) × (low + self.width ≤ 32))
+            (λ refusal. (self.count ≤ index) × (refusal ≡ refusals.Field)) }
+    {
+        if index < self.count as usize {
+            Ok((self.count - 1 - index as u32) * self.step)
+        } else {
+            Err(Refusal::Field)
+        }
     }
-    FieldSet::Word(with_part(word, (count - 1 - index as u32) * step, width, value))
+
+    // Field `index` of a word.
+    fn get(self, word: u32, index: usize) -> Result<u32, Fault>
+        ensures { answer_of result ≡ get_field self word index }
+    {
+        let low = self.low(index)?;
+        Ok((word >> low) & self.most())
+    }
+
+    // Field `index` of a word, where it is no wider than a byte.
+    fn get_byte(self, word: u32, index: usize) -> Result<u8, Fault>
+        requires { self.width ≤ 8 }
+        ensures { answer_of result ≡ get_field self word index }
+    {
+        Ok(self.get(word, index)? as u8)
+    }
+
+    // A word with a value in field `index`.
+    fn set(self, word: u32, index: usize, value: u32) -> Result<u32, Fault>
+        ensures { answer_of result ≡ set_field self word index value }
+    {
+        let low = self.low(index)?;
+        if value > self.most() {
+            return Err(Refusal::Field.into());
+        }
+        Ok((word & !(self.most() << low)) | (value << low))
+    }
 }
 
 // Reads a bit.
-pub fn bit(word: u32, index: usize) -> BitRead
+pub fn bit(word: u32, index: usize) -> Result<bool, Fault>
     ensures { bit_meaning result ≡ get_field bit_field word index }
 {
-    if index < 32 {
-        BitRead::Value(part_of(word, 31 - index as u32, 1) != 0)
-    } else {
-        BitRead::Refused(TOO_BIG)
-    }
+    Ok(BIT.get(word, index)? != 0)
 }
 
 // Sets a bit.
-pub fn set_bit(word: u32, index: usize, value: bool) -> FieldSet
-    ensures { set_meaning result ≡ set_field bit_field word index (bit_number value) }
+pub fn set_bit(word: u32, index: usize, value: bool) -> Result<u32, Fault>
+    ensures { answer_of result ≡ set_field bit_field word index (bit_number value) }
 {
-    set_field(32, 1, 1, word, index, value as u32)
+    BIT.set(word, index, value as u32)
 }
 
 // Reads a crumb, of two bits.
-pub fn crumb(word: u32, index: usize) -> ByteRead
-    ensures { byte_meaning result ≡ get_field crumb_field word index }
+pub fn crumb(word: u32, index: usize) -> Result<u8, Fault>
+    ensures { answer_of result ≡ get_field crumb_field word index }
 {
-    byte_field(16, 2, 2, word, index)
+    CRUMB.get_byte(word, index)
 }
 
 // Sets a crumb.
-pub fn set_crumb(word: u32, index: usize, value: u8) -> FieldSet
-    ensures { set_meaning result ≡ set_field crumb_field word index value }
+pub fn set_crumb(word: u32, index: usize, value: u8) -> Result<u32, Fault>
+    ensures { answer_of result ≡ set_field crumb_field word index value }
 {
-    set_field(16, 2, 2, word, index, value as u32)
+    CRUMB.set(word, index, value as u32)
 }
 
 // Reads a nibble, of four bits.
-pub fn nibble(word: u32, index: usize) -> ByteRead
-    ensures { byte_meaning result ≡ get_field nibble_field word index }
+pub fn nibble(word: u32, index: usize) -> Result<u8, Fault>
+    ensures { answer_of result ≡ get_field nibble_field word index }
 {
-    byte_field(8, 4, 4, word, index)
+    NIBBLE.get_byte(word, index)
 }
 
 // Sets a nibble.
-pub fn set_nibble(word: u32, index: usize, value: u8) -> FieldSet
-    ensures { set_meaning result ≡ set_field nibble_field word index value }
+pub fn set_nibble(word: u32, index: usize, value: u8) -> Result<u32, Fault>
+    ensures { answer_of result ≡ set_field nibble_field word index value }
 {
-    set_field(8, 4, 4, word, index, value as u32)
+    NIBBLE.set(word, index, value as u32)
 }
 
 // Reads a septet: the low seven bits of an octet.
-pub fn septet(word: u32, index: usize) -> ByteRead
-    ensures { byte_meaning result ≡ get_field septet_field word index }
+pub fn septet(word: u32, index: usize) -> Result<u8, Fault>
+    ensures { answer_of result ≡ get_field septet_field word index }
 {
-    byte_field(4, 8, 7, word, index)
+    SEPTET.get_byte(word, index)
 }
 
 // Sets a septet. Its octet's top bit is kept.
-pub fn set_septet(word: u32, index: usize, value: u8) -> FieldSet
-    ensures { set_meaning result ≡ set_field septet_field word index value }
+pub fn set_septet(word: u32, index: usize, value: u8) -> Result<u32, Fault>
+    ensures { answer_of result ≡ set_field septet_field word index value }
 {
-    set_field(4, 8, 7, word, index, value as u32)
+    SEPTET.set(word, index, value as u32)
 }
 
 // Reads an octet, of eight bits.
-pub fn octet(word: u32, index: usize) -> ByteRead
-    ensures { byte_meaning result ≡ get_field octet_field word index }
+pub fn octet(word: u32, index: usize) -> Result<u8, Fault>
+    ensures { answer_of result ≡ get_field octet_field word index }
 {
-    byte_field(4, 8, 8, word, index)
+    OCTET.get_byte(word, index)
 }
 
 // Sets an octet.
-pub fn set_octet(word: u32, index: usize, value: u8) -> FieldSet
-    ensures { set_meaning result ≡ set_field octet_field word index value }
+pub fn set_octet(word: u32, index: usize, value: u8) -> Result<u32, Fault>
+    ensures { answer_of result ≡ set_field octet_field word index value }
 {
-    set_field(4, 8, 8, word, index, value as u32)
+    OCTET.set(word, index, value as u32)
 }
 
 // Reads a word, of 16 bits.
-pub fn word(word: u32, index: usize) -> WordRead
-    ensures { word_meaning result ≡ get_field word_field word index }
+pub fn word(word: u32, index: usize) -> Result<u16, Fault>
+    ensures { answer_of result ≡ get_field word_field word index }
 {
-    if index < 2 {
-        WordRead::Value(part_of(word, (1 - index as u32) * 16, 16) as u16)
-    } else {
-        WordRead::Refused(TOO_BIG)
-    }
+    Ok(WORD.get(word, index)? as u16)
 }
 
 // Sets a word of 16 bits.
-pub fn set_word(word: u32, index: usize, value: u16) -> FieldSet
-    ensures { set_meaning result ≡ set_field word_field word index value }
+pub fn set_word(word: u32, index: usize, value: u16) -> Result<u32, Fault>
+    ensures { answer_of result ≡ set_field word_field word index value }
 {
-    set_field(2, 16, 16, word, index, value as u32)
+    WORD.set(word, index, value as u32)
 }

@@ -1,23 +1,26 @@
 -- A yes exactly for a valid message with this payload, group and stream id; each case of the call. Assumes nothing.
 use mathlib.Core.Path.{◌≡◌, refl, sym, ap, ◌∙◌}
-use mathlib.Core.Bool.{false, not, ◌||◌}
+use mathlib.Core.Bool.{Bool, true, false, not, cond, ◌||◌}
 use mathlib.Core.List.{List, [], ◌∷◌, ◌++◌}
 use Prim.Native.Nat.{ℕ, zero, suc, ◌+◌, ◌-◌, ◌*◌, ◌/◌, ◌≤◌, ◌<◌}
 use native.Mathlib.Omega.{arith}
 use lib.Dec.{eqb, ltb}
 use lib.ListN.{length, take, drop}
 use lib.Seq.{take-length, drop_at}
-use borrow.Author.Tests.{lt-ltb, le-ltb, eq-eqb, ne_eqb, eqb-true, not-false}
+use borrow.Author.Tests.{lt-ltb, le-ltb, ltb-true, ltb-false, eq-eqb, ne_eqb, eqb-true, not-false}
+use Rattle.std.specs.Prelude.{Some, None}
 use Rattle.refusal.specs.Answer.{gives, refused, pass, ◌▷◌, guard}
 use Rattle.refusal.proofs.Laws.{guard_passed, pass_both, given_passes}
 use Rattle.ump.specs.Packet.{Shape, sysex8, group_at, id_at, payload_at, joined, payload}
 use Rattle.ump.specs.Check.{first_where, same, sweep, check, checked, payload_of, Summary, summary}
+use Rattle.ump.proofs.First.{first_le}
 use Rattle.ump.proofs.Joined.{joined_around}
 use Rattle.ump.proofs.Checks.{sweep_pass, pass_sweep, or_left, or_right, same_refl, same_eq, valid_passes, passes_valid}
 use Rattle.ump.proofs.Splicing.{group_fits}
 use Rattle.message.proofs.Checked.{Taken, taken}
 use Rattle.carries.specs.Carries.{unlike, other_bytes, carries}
 use Rattle.carries.specs.Senders.{Carries}
+use Rattle.carries.specs.Steps.{first_found}
 use Rattle.carries.proofs.Likeness.{like_front, like_is, unlike-append}
 
 -- ---- the packets
@@ -148,3 +151,32 @@ told words len e =
       group_is = ap (λ (m : Summary). m.group) g.1;
       id_is = ap (λ (m : Summary). m.id) g.1;
     }
+
+-- ---- the first packet with another byte
+
+module _ (test : ℕ → Bool) (n : ℕ) where
+  pub found_here : {i : ℕ} → i < n → i ≡ first_where test n → Some i ≡ first_found test n
+  found_here {i} l e = rw (← e, lt-ltb i n l)
+
+  pub found_none : n ≡ first_where test n → None ≡ first_found test n
+  found_none e = rw (← e, le-ltb n n (omega arith))
+
+  found_is : {i : ℕ} → Some i ≡ first_found test n → (i ≡ first_where test n) × (i < n)
+  found_is {i} e = go (ltb (first_where test n) n) refl e
+    where
+      go : (b : Bool) → ltb (first_where test n) n ≡ b → Some i ≡ cond b (Some (first_where test n)) None → (i ≡ first_where test n) × (i < n)
+      go true t e = let k : i ≡ first_where test n = cc in (k, rw k (ltb-true _ _ t))
+      go false t e = cc
+
+  pub found_first : {i : ℕ} → Some i ≡ first_found test n → i ≡ first_where test n
+  found_first e = (found_is e).0
+
+  pub found_below : {i : ℕ} → Some i ≡ first_found test n → i < n
+  found_below e = (found_is e).1
+
+  pub found_not : None ≡ first_found test n → n ≡ first_where test n
+  found_not e = go (ltb (first_where test n) n) refl e
+    where
+      go : (b : Bool) → ltb (first_where test n) n ≡ b → None ≡ cond b (Some (first_where test n)) None → n ≡ first_where test n
+      go true t e = cc
+      go false t e = omega (arith, ltb-false (first_where test n) n t, first_le test n)

@@ -2,30 +2,20 @@
 #![tactic(auto)]
 
 ghost use Rattle.std.specs.Prelude.{◌≡◌, [], ◌∷◌, ◌+◌, ◌≤◌, length, drop};
-ghost use Rattle.refusal.specs.Answer.{refused};
-ghost use Rattle.refusal.specs.Number.{number_of};
 ghost use Rattle.ump.specs.Word.{octets};
 ghost use Rattle.ump.specs.Packet.{sysex8, payload_at};
-ghost use Rattle.ump.specs.Check.{first_where};
 ghost use Rattle.carries.specs.Carries.{unlike, other_bytes, carries};
-ghost use Rattle.carries.specs.Meaning.{carried_meaning};
-ghost use Rattle.carries.specs.Steps.{Before, AllCounted};
+ghost use Rattle.carries.specs.Steps.{Before, AllCounted, first_found};
+ghost use Rattle.refusal.specs.Meaning.{answer_of};
 
-use message::sysex8::Checked;
 use refusal::{Fault, Refusal};
-
-// The answer: yes, or why not.
-#[derive(Drop)]
-pub enum Carried {
-    Yes,
-    Refused(Fault),
-}
 
 // Whether the four octets of a word are not the payload's bytes from `at` on.
 fn word_differs(word: u32, payload: &[u8], at: usize) -> bool
     requires { at + 4 ≤ length payload.now }
     ensures { result ≡ unlike (octets (word ∷ [])) (drop at payload.now) }
 {
+    // By hand: the packet's bytes are octets of a word, no slice that `==` or `starts_with` could take.
     let four = layout::word_of(
         payload[at],
         payload[at + 1],
@@ -47,15 +37,13 @@ fn bytes_differ(
     requires { Before words.now packet size at }
     ensures { result ≡ unlike (drop from (payload_at sysex8 words.now packet)) (drop (at + from) payload.now) }
 {
-    let mut byte = from;
-    while byte < size {
+    for byte in from..size {
         if at + byte >= payload.len() {
             return false;
         }
         if message::bytes::byte_at(words, packet, byte) != payload[at + byte] {
             return true;
         }
-        byte += 1;
     }
     false
 }
@@ -65,6 +53,7 @@ fn packet_differs(words: &[u32], packet: usize, size: usize, payload: &[u8], at:
     requires { Before words.now packet size at × (at + size ≤ length payload.now) }
     ensures { result ≡ unlike (payload_at sysex8 words.now packet) (drop at payload.now) }
 {
+    // By hand, word by word: byte by byte, packets that are not full took two and a half times as long (docs/DECISIONS.md, 210).
     if size == 0 {
         return false;
     }
@@ -101,59 +90,46 @@ fn differs(words: &[u32], packet: usize, size: usize, payload: &[u8], at: usize)
     bytes_differ(words, packet, 0, size, payload, at)
 }
 
-// The first packet with a byte that is not the payload's at its place; their number where there is none.
-fn first_differing(words: &[u32], packets: usize, payload: &[u8]) -> usize
+// The first packet with a byte that is not the payload's at its place.
+fn first_differing(words: &[u32], packets: usize, payload: &[u8]) -> Option<usize>
     requires { AllCounted words.now packets }
-    ensures { result ≡ first_where (other_bytes sysex8 words.now payload.now) packets }
+    ensures { result ≡ first_found (other_bytes sysex8 words.now payload.now) packets }
 {
-    let mut packet = 0;
     let mut at = 0;
-    while packet < packets {
+    for packet in 0..packets {
         let size = layout::count_of(words[4 * packet]) as usize - 1;
         if differs(words, packet, size, payload, at) {
-            return packet;
+            return Some(packet);
         }
         at += size;
-        packet += 1;
     }
-    packets
-}
-
-// A no.
-fn no(refusal: Refusal, place: usize) -> Carried
-    ensures { carried_meaning result ≡ refused (number_of refusal) place }
-{
-    Carried::Refused(Fault { refusal, place })
+    None
 }
 
 // Yes exactly if the first `length` of the words lent are one valid message, in any packing, that carries the payload with this group
 // and stream id. The check's refusals, Field for a group above 15, then Other: at 0 if group or id differ, else at the packet that holds
 // the first byte that differs within the common length, else at 0 if only the sizes differ.
-pub fn carries(words: &[u32], length: usize, payload: &[u8], group: u8, id: u8) -> Carried
-    ensures { carried_meaning result ≡ carries sysex8 words.now length payload.now group (id ∷ []) }
+pub fn carries(words: &[u32], length: usize, payload: &[u8], group: u8, id: u8) -> Result<(), Fault>
+    ensures { answer_of result ≡ carries sysex8 words.now length payload.now group (id ∷ []) }
 {
-    let checked = message::sysex8::check(words, length);
-    match checked {
-        Checked::Refused(fault) => Carried::Refused(fault),
-        Checked::Message(message) => {
-            if group > 15 {
-                return no(Refusal::Field, 0);
-            }
-            if message.group != group {
-                return no(Refusal::Other, 0);
-            }
-            if message.id != id {
-                return no(Refusal::Other, 0);
-            }
-            let packets = length / 4;
-            let packet = first_differing(words, packets, payload);
-            if packet < packets {
-                return no(Refusal::Other, 4 * packet);
-            }
-            if message.size != payload.len() {
-                return no(Refusal::Other, 0);
-            }
-            Carried::Yes
-        }
+    let message = message::sysex8::check(words, length)?;
+    if group > 15 {
+        return Err(Refusal::Field.into());
     }
+    if message.group != group {
+        return Err(Refusal::Other.into());
+    }
+    if message.id != id {
+        return Err(Refusal::Other.into());
+    }
+    if let Some(packet) = first_differing(words, length / 4, payload) {
+        return Err(Fault {
+            refusal: Refusal::Other,
+            place: 4 * packet,
+        });
+    }
+    if message.size != payload.len() {
+        return Err(Refusal::Other.into());
+    }
+    Ok(())
 }

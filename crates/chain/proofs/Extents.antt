@@ -1,7 +1,7 @@
 -- What a dump measures, from its base up. Assumes nothing.
+use Rattle.std.specs.Prelude.{Option, None, Some, Result, Ok, Err}
 use mathlib.Core.Path.{◌≡◌, refl, sym, ap, ◌∙◌}
 use mathlib.Core.Bool.{true, false}
-use mathlib.Core.Option.{Option, none, some}
 use mathlib.Core.List.{List, [], ◌∷◌}
 use Prim.Native.Nat.{ℕ, zero, suc, ◌+◌, ◌-◌, ◌≤◌, max}
 use native.Mathlib.Omega.{arith}
@@ -18,21 +18,19 @@ use Rattle.chain.specs.Walk.{base_of, from_base}
 use Rattle.chain.specs.Restore.{Payload, roomed, outside, rebuilt, restored, unlimited, payload_size, sizes, largest}
 use Rattle.chain.specs.Laying.{whole_at, MeasureOf, Measures, MeasuresWhole, DeltaMeasure, MeasuresDelta}
 use Rattle.chain.specs.declared.measuring.Extent.{Extent}
-use Rattle.chain.specs.declared.measuring.Measured.{Measured}
-use Rattle.chain.specs.declared.measuring.Measured.TheVariants as measured
 use Rattle.chain.proofs.Steps.{whole_base, delta_base, step_whole, step_gives}
 
 -- ---- by cases
 
 pub measures_refused : {ds : List Dump} {left n : ℕ} (refusal : Refusal) → restored unlimited ds left n ≡ refused (number_of refusal) 0
-    → Measures ds left n (measured.Refused refusal)
+    → Measures ds left n (Err refusal)
 measures_refused refusal e =
     record {
       dump = λ m q. let z : ◌≡◌ {A = ℕ} 0 1 = cc in absurd (omega arith);
       refuses = λ other q. let same : refusal ≡ other = cc in e ∙ ap (λ (r : Refusal). refused (number_of r) 0) same;
     }
 
-pub measures_dump : {ds : List Dump} {left n : ℕ} {m : Extent} → MeasureOf ds left n m → Measures ds left n (measured.Dump m)
+pub measures_dump : {ds : List Dump} {left n : ℕ} {m : Extent} → MeasureOf ds left n m → Measures ds left n (Ok m)
 measures_dump {m = m} e =
     record {
       dump = λ other q. let same : m ≡ other = cc in rw same at e;
@@ -40,14 +38,14 @@ measures_dump {m = m} e =
     }
 
 module _ (patches : List Patch) (base : Extent) where
-  pub delta_refused : outside base.size patches ≡ true → MeasuresDelta patches base (measured.Refused Range)
+  pub delta_refused : outside base.size patches ≡ true → MeasuresDelta patches base (Err Range)
   delta_refused e =
       record {
         dump = λ m q. let z : ◌≡◌ {A = ℕ} 0 1 = cc in absurd (omega arith);
         refuses = λ refusal q. let same : Range ≡ refusal = cc in (ap number_of (sym same), e);
       }
 
-  pub delta_measured : {m : Extent} → DeltaMeasure patches base m → MeasuresDelta patches base (measured.Dump m)
+  pub delta_measured : {m : Extent} → DeltaMeasure patches base m → MeasuresDelta patches base (Ok m)
   delta_measured {m} d =
       record {
         dump = λ other q. let same : m ≡ other = cc in rw same at d;
@@ -63,12 +61,12 @@ sizes_step ds zero n h = absurd (h refl)
 sizes_step ds (suc left) n h = let q : suc left - 1 ≡ left = omega arith in rw q
 
 module _ (store : List ℕ) (left n : ℕ) (h : left ≡ 0 → ⊥) (at : ℕ) (d : is_dump (get_or store at 0) ≡ true)
-    (q : some (dump_at store at) ≡ held (dumps_of store) n) where
+    (q : Some (dump_at store at) ≡ held (dumps_of store) n) where
   pub extent_whole : is_whole (get_or store at 0) ≡ true → {m : Extent} → MeasuresWhole store at m → MeasureOf (dumps_of store) left n m
   unfolding roomed
   extent_whole e {m} w =
       let is : restored unlimited (dumps_of store) left n ≡ gives (whole_at store at) = sym (step_whole unlimited store left n h at d q e) in
-      let none_below : base_of (held (dumps_of store) n) ≡ none = ap base_of (sym q) ∙ whole_base store at d e in
+      let none_below : base_of (held (dumps_of store) n) ≡ None = ap base_of (sym q) ∙ whole_base store at d e in
       let list : sizes (dumps_of store) left n ≡ length (whole_at store at).bytes ∷ [] = sizes_step (dumps_of store) left n h
       ∙ ap (λ (a : Answer Payload). payload_size a ∷ from_base [] (λ base. sizes (dumps_of store) (left - 1) base) (base_of (held (dumps_of store) n))) is
       ∙ ap (λ (o : Option ℕ). length (whole_at store at).bytes ∷ from_base [] (λ base. sizes (dumps_of store) (left - 1) base) o) none_below in
@@ -106,7 +104,7 @@ module _ (store : List ℕ) (left n : ℕ) (h : left ≡ 0 → ⊥) (at : ℕ) (
         let list : sizes (dumps_of store) left n ≡ length bytes ∷ sizes (dumps_of store) (left - 1) number = sizes_step (dumps_of store) left n h
         ∙ ap (λ (a : Answer Payload). payload_size a ∷ from_base [] (λ base. sizes (dumps_of store) (left - 1) base) (base_of (held (dumps_of store) n))) is
         ∙ ap (λ (o : Option ℕ). length bytes ∷ from_base [] (λ base. sizes (dumps_of store) (left - 1) base) o)
-        (ap base_of (sym q) ∙ delta_base store at d e ∙ ap some (sym w)) in
+        (ap base_of (sym q) ∙ delta_base store at d e ∙ ap Some (sym w)) in
         record {
           payload = payload;
           is = is;
@@ -117,7 +115,7 @@ module _ (store : List ℕ) (left n : ℕ) (h : left ≡ 0 → ⊥) (at : ℕ) (
           steps = omega (arith, f.steps, b.steps, ap length list);
         }
 
-    pub extent_measures : {r : Measured} → MeasuresDelta patches below r → Measures (dumps_of store) left n r
+    pub extent_measures : {r : (Result Extent Refusal)} → MeasuresDelta patches below r → Measures (dumps_of store) left n r
     extent_measures f =
         record {
           dump = λ m g. extent_delta (f.dump m g);
@@ -131,5 +129,5 @@ sizes_few ds zero n = omega arith
 sizes_few ds (suc left) n = go (λ b. sizes_few ds left b) (base_of (held ds n))
   where
     go : ((b : ℕ) → length (sizes ds left b) ≤ left) → (o : Option ℕ) → suc (length (from_base [] (λ base. sizes ds left base) o)) ≤ suc left
-    go more none = omega arith
-    go more (some base) = omega (arith, more base)
+    go more None = omega arith
+    go more (Some base) = omega (arith, more base)

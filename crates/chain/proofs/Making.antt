@@ -1,7 +1,7 @@
 -- What a restored dump is made of: a whole dump's data, or the edits of a delta done on its base. Assumes nothing.
+use Rattle.std.specs.Prelude.{Option, None, Some}
 use mathlib.Core.Path.{◌≡◌, refl}
 use mathlib.Core.Bool.{Bool, true, false, ◌||◌}
-use mathlib.Core.Option.{Option, none, some}
 use mathlib.Core.List.{List, [], ◌∷◌}
 use Prim.Native.Nat.{ℕ, zero, suc, ◌≤◌, ◌<◌}
 use native.Mathlib.Omega.{arith}
@@ -40,9 +40,9 @@ pub record Fitting (p : Payload) : Type 0 where
 
 -- a whole dump's data, or a delta's edits done on its base
 pub data Made (too_long : ℕ → Bool) (ds : List Dump) (left n : ℕ) (payload : Payload) : Type 0 where
-  of_whole : (group id : ℕ) (bytes : List ℕ) → held ds n ≡ some (whole n group id bytes) → too_long (length payload.bytes) ≡ false
+  of_whole : (group id : ℕ) (bytes : List ℕ) → held ds n ≡ Some (whole n group id bytes) → too_long (length payload.bytes) ≡ false
       → record { group = group; id = id; bytes = bytes } ≡ payload → Made too_long ds left n payload
-  of_delta : (base : ℕ) (patches : List Patch) → held ds n ≡ some (delta n base patches)
+  of_delta : (base : ℕ) (patches : List Patch) → held ds n ≡ Some (delta n base patches)
       → OfBase too_long (restored too_long ds left base) patches payload → Made too_long ds left n payload
 
 module _ (too_long : ℕ → Bool) where
@@ -68,7 +68,7 @@ module _ (too_long : ℕ → Bool) where
 
   module _ (ds : List Dump) where
     -- the delta held under a number
-    pub made_delta : (left n : ℕ) {number base : ℕ} {patches : List Patch} {p : Payload} → held ds n ≡ some (delta number base patches)
+    pub made_delta : (left n : ℕ) {number base : ℕ} {patches : List Patch} {p : Payload} → held ds n ≡ Some (delta number base patches)
         → restored too_long ds (suc left) n ≡ gives p → OfBase too_long (restored too_long ds left base) patches p
     unfolding restored
     made_delta left n {base = base} {patches = patches} t e = rebuilt_given patches (restored too_long ds left base) (rw t at e)
@@ -79,12 +79,12 @@ module _ (too_long : ℕ → Bool) where
       where
         go : (o : Option Dump) → held ds n ≡ o → restored_by too_long (λ b. restored too_long ds left b) o ≡ gives p
             → Made too_long ds left n p
-        go none t h = never_refused h
-        go (some (whole number group id bytes)) t h =
+        go None t h = never_refused h
+        go (Some (whole number group id bytes)) t h =
             let same : number ≡ n = held_is ds n t in
             let r = roomed_given _ h in
             of_whole group id bytes (rw same at t) r.0 r.1
-        go (some (delta number base patches)) t h =
+        go (Some (delta number base patches)) t h =
             let same : number ≡ n = held_is ds n t in
             of_delta base patches (rw same at t) (rebuilt_given patches (restored too_long ds left base) h)
 
@@ -100,9 +100,9 @@ module _ (too_long : ℕ → Bool) where
 
     -- what holds of whole dumps, and of a delta if of its base, holds of each restored dump
     module _ (P : Payload → Type 0)
-        (first : (n group id : ℕ) (bytes : List ℕ) → held ds n ≡ some (whole n group id bytes)
+        (first : (n group id : ℕ) (bytes : List ℕ) → held ds n ≡ Some (whole n group id bytes)
         → P (record { group = group; id = id; bytes = bytes }))
-        (next : (n base : ℕ) (patches : List Patch) → held ds n ≡ some (delta n base patches) → (old : Payload) → P old
+        (next : (n base : ℕ) (patches : List Patch) → held ds n ≡ Some (delta n base patches) → (old : Payload) → P old
         → P (rebuilt_from patches old)) where
       made_all : (left n : ℕ) {p : Payload} → restored too_long ds left n ≡ gives p → P p
       unfolding restored

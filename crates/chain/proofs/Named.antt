@@ -1,6 +1,6 @@
 -- Each refusal of restoring and describing is one of the names. Assumes nothing.
+use Rattle.std.specs.Prelude.{Option, None, Some}
 use mathlib.Core.Bool.{Bool}
-use mathlib.Core.Option.{Option, none, some}
 use mathlib.Core.List.{List}
 use Prim.Native.Nat.{ℕ, zero, suc}
 use lib.Dec.{ltb}
@@ -30,9 +30,9 @@ restored_named too_long ds zero n = named Ring
 restored_named too_long ds (suc left) n = go (λ b. restored_named too_long ds left b) (held ds n)
   where
     go : ((b : ℕ) → Named (restored too_long ds left b)) → (o : Option Dump) → Named (restored_by too_long (λ b. restored too_long ds left b) o)
-    go more none = named Missing
-    go more (some (whole number group id bytes)) = roomed_named too_long _
-    go more (some (delta number base patches)) = rebuilt_named too_long patches _ (more base)
+    go more None = named Missing
+    go more (Some (whole number group id bytes)) = roomed_named too_long _
+    go more (Some (delta number base patches)) = rebuilt_named too_long patches _ (more base)
 
 mapped_named : {A B : Type 0} (f : A → B) (answer : Answer A) → Named answer → Named (map_answer f answer)
 mapped_named f (gives a) h = accepted

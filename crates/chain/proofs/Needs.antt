@@ -1,8 +1,8 @@
 -- What restoring needs: room for the largest payload on the way, and no more; how many bases are followed. Assumes nothing.
+use Rattle.std.specs.Prelude.{Option, None, Some}
 use mathlib.Core.Path.{◌≡◌, refl, sym, ap, ◌∙◌}
 use mathlib.Core.Logic.{◌⊎◌, inl, inr}
 use mathlib.Core.Bool.{Bool, true, false}
-use mathlib.Core.Option.{Option, none, some}
 use mathlib.Core.List.{List, [], ◌∷◌}
 use Prim.Native.Nat.{ℕ, zero, suc, ◌-◌, ◌≤◌, ◌<◌, max}
 use native.Mathlib.Omega.{arith}
@@ -136,10 +136,10 @@ module _ (too_long : ℕ → Bool) (ds : List Dump) where
       go : ((b : ℕ) → restored unlimited ds left b ≡ refused number place → RefusedOr number place (restored too_long ds left b))
           → (o : Option Dump) → restored_by unlimited (λ b. restored unlimited ds left b) o ≡ refused number place
           → RefusedOr number place (restored_by too_long (λ b. restored too_long ds left b) o)
-      go more none h = inl h
-      go more (some (whole number' group id bytes)) h =
+      go more None h = inl h
+      go more (Some (whole number' group id bytes)) h =
           never_both (sym (roomed_is unlimited (record { group = group; id = id; bytes = bytes }) refl) ∙ h)
-      go more (some (delta number' base patches)) h = by (restored unlimited ds left base) refl
+      go more (Some (delta number' base patches)) h = by (restored unlimited ds left base) refl
         where
           below : RefusedOr number place (restored too_long ds left base)
               → RefusedOr number place (rebuilt too_long patches (restored too_long ds left base))

@@ -1,7 +1,7 @@
 -- Restoring depends on the dumps held alone, where the walk comes by: not on their order. Assumes nothing.
+use Rattle.std.specs.Prelude.{Option, None, Some}
 use mathlib.Core.Path.{◌≡◌, refl, sym, ap, ◌∙◌}
 use mathlib.Core.Bool.{Bool, true, false, cond, ◌||◌}
-use mathlib.Core.Option.{Option, none, some}
 use mathlib.Core.List.{List, [], ◌∷◌}
 use Prim.Native.Nat.{ℕ, zero, suc}
 use lib.Dec.{eqb}
@@ -18,7 +18,7 @@ use Rattle.chain.proofs.Outside.{or_false}
 -- ---- dumps that agree on the numbers that a walk comes to
 
 module _ (ds es : List Dump) (On : ℕ → Type 0) (agree : (m : ℕ) → On m → held ds m ≡ held es m)
-    (closed : (m b : ℕ) → On m → base_of (held ds m) ≡ some b → On b) where
+    (closed : (m b : ℕ) → On m → base_of (held ds m) ≡ Some b → On b) where
   pub restored_agree : (too_long : ℕ → Bool) (left n : ℕ) → On n → restored too_long ds left n ≡ restored too_long es left n
   unfolding restored
   restored_agree too_long zero n on = refl
@@ -26,9 +26,9 @@ module _ (ds es : List Dump) (On : ℕ → Type 0) (agree : (m : ℕ) → On m �
     where
       go : ((b : ℕ) → On b → restored too_long ds left b ≡ restored too_long es left b) → (o : Option Dump) → held ds n ≡ o
           → restored_by too_long (λ b. restored too_long ds left b) o ≡ restored_by too_long (λ b. restored too_long es left b) o
-      go more none q = refl
-      go more (some (whole number group id bytes)) q = refl
-      go more (some (delta number base patches)) q = ap (rebuilt too_long patches) (more base (closed n base on (ap base_of q)))
+      go more None q = refl
+      go more (Some (whole number group id bytes)) q = refl
+      go more (Some (delta number base patches)) q = ap (rebuilt too_long patches) (more base (closed n base on (ap base_of q)))
 
   pub sizes_agree : (left n : ℕ) → On n → sizes ds left n ≡ sizes es left n
   unfolding sizes
@@ -41,8 +41,8 @@ module _ (ds es : List Dump) (On : ℕ → Type 0) (agree : (m : ℕ) → On m �
 
       go : ((b : ℕ) → On b → sizes ds left b ≡ sizes es left b) → (o : Option ℕ) → base_of (held ds n) ≡ o
           → (size ∷ from_base [] (λ b. sizes ds left b) o) ≡ size ∷ from_base [] (λ b. sizes es left b) o
-      go more none q = refl
-      go more (some b) q = ap (λ (l : List ℕ). size ∷ l) (more b (closed n b on q))
+      go more None q = refl
+      go more (Some b) q = ap (λ (l : List ℕ). size ∷ l) (more b (closed n b on q))
 
   pub described_agree : (left n : ℕ) → On n → described ds left n ≡ described es left n
   unfolding described
@@ -115,7 +115,7 @@ shuffled_held (swap {x = c} {y = d} {xs = ds}) h n = go (eqb n (dump_number c)) 
         (or_false (eqb (dump_number c) (dump_number d)) (elem (dump_number c) (numbers_of ds)) a.0).0
 
     go : (a b : Bool) → eqb n (dump_number c) ≡ a → eqb n (dump_number d) ≡ b
-        → cond a (some c) (cond b (some d) (held ds n)) ≡ cond b (some d) (cond a (some c) (held ds n))
+        → cond a (Some c) (cond b (Some d) (held ds n)) ≡ cond b (Some d) (cond a (Some c) (held ds n))
     go true true p q = not_both (eq-eqb (dump_number c) (dump_number d) (sym (eqb-true n (dump_number c) p) ∙ eqb-true n (dump_number d) q)) other
     go true false p q = refl
     go false true p q = refl

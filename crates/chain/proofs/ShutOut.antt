@@ -1,8 +1,10 @@
 -- Wrong outcomes of `describe` that its promise shuts out, each on a concrete store. Assumes nothing.
+use Rattle.std.specs.Prelude.{Option, None, Some, Result, Ok, Err}
+use Rattle.chain.specs.declared.Description.{Description}
+use Rattle.refusal.specs.declared.Fault.{Fault}
 use mathlib.Core.Path.{◌≡◌, refl}
 use mathlib.Core.Bool.{Bool, false, not}
 use lib.Dec.{T, eqb}
-use mathlib.Core.Option.{Option, none, some}
 use mathlib.Core.List.{List, ◌++◌}
 use Prim.Native.Nat.{ℕ, ◌+◌, ◌*◌}
 use Rattle.refusal.specs.Answer.{Answer}
@@ -20,26 +22,24 @@ use Rattle.chain.specs.Meaning.{described_meaning}
 use Rattle.chain.specs.Samples.{shorter, three}
 use Rattle.chain.specs.declared.Basis.{Basis}
 use Rattle.chain.specs.declared.Basis.TheVariants as basis
-use Rattle.chain.specs.declared.Described.{Described}
-use Rattle.chain.specs.declared.Described.TheVariants as described
 use Rattle.chain.proofs.describe.Kinds as describe-kinds
 use Rattle.chain.proofs.describe.Reads as describe
 
 -- `describe` answers this of this store and number
-abbrev Wrong : List ℕ → ℕ → Described → Type 0
+abbrev Wrong : List ℕ → ℕ → (Result Description Fault) → Type 0
 Wrong store number answer =
     ShutOut 1 describe-kinds.ps describe-kinds.r describe.Post (λ κs a x s. (a.0.now ≡ store) × (a.1.0 ≡ number) × (x ≡ answer))
 
-abbrev dump : Basis → ℕ → ℕ → ℕ → ℕ → ℕ → Described
-dump b group id size words steps = described.Dump (record { basis = b; group = group; id = id; size = size; words = words; steps = steps })
+abbrev dump : Basis → ℕ → ℕ → ℕ → ℕ → ℕ → (Result Description Fault)
+dump b group id size words steps = Ok (record { basis = b; group = group; id = id; size = size; words = words; steps = steps })
 
-abbrev refuse : Refusal → Described
-refuse name = described.Refused (record { refusal = name; place = 0 })
+abbrev refuse : Refusal → (Result Description Fault)
+refuse name = Err (record { refusal = name; place = 0 })
 
 -- a number of a description
 abbrev base_number : Option ℕ → ℕ
-base_number none = 0
-base_number (some base) = base + 1
+base_number None = 0
+base_number (Some base) = base + 1
 
 abbrev tells : Answer paper.Description → ℕ
 tells = told (λ (d : paper.Description). 100000 * base_number d.base + (10000 * d.group + (1000 * d.words + (100 * d.size + (10 * d.steps + d.id)))))
@@ -57,7 +57,7 @@ record Outcomes : Type 0 where
   room : Wrong one 1 (refuse Room)
 
 -- what is answered there is another
-abbrev Others : List ℕ → ℕ → Described → Type 0
+abbrev Others : List ℕ → ℕ → (Result Description Fault) → Type 0
 Others store number answer = eqb (tells (described_meaning answer)) (tells (paper.describe store number)) ≡ false
 
 own_other : Others shorter 2 (dump (basis.Delta 1) 0 0 13 4 1)

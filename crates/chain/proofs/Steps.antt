@@ -1,7 +1,7 @@
 -- One step of the walk, by the place where a dump stands. Assumes nothing.
+use Rattle.std.specs.Prelude.{None, Option, Some}
 use mathlib.Core.Path.{◌≡◌, refl, sym, ap, ◌∙◌}
 use mathlib.Core.Bool.{Bool, true, false}
-use mathlib.Core.Option.{none, some}
 use mathlib.Core.List.{List}
 use Prim.Native.Nat.{ℕ, zero, suc, ◌+◌, ◌-◌, ◌<◌}
 use native.Mathlib.Omega.{arith}
@@ -10,8 +10,6 @@ use Rattle.refusal.specs.Answer.{Answer, gives, refused}
 use Rattle.ump.specs.Word.{pair_at}
 use Rattle.store.specs.Store.{is_whole, is_dump, is_data, Dump, delta, dump_of, dumps_of, patches_in, held}
 use Rattle.store.specs.Places.{record_at, next_at, records_from, dump_at}
-use Rattle.store.specs.declared.finding.Found.{Found}
-use Rattle.store.specs.declared.finding.Found.TheVariants as found
 use Rattle.store.specs.Meaning.{FoundDump, FoundInside}
 use Rattle.store.proofs.Records.{data_low, body_byte, body_pair}
 use Rattle.store.proofs.Dumps.{dump_small}
@@ -40,7 +38,7 @@ module _ (store : List ℕ) (at : ℕ) (d : is_dump (get_or store at 0) ≡ true
   kind : is_data (get_or store at 0) ≡ false
   kind = let k = get_or store at 0 in sym (data_low k (omega (arith, dump_small k d)))
 
-  pub whole_here : (too_long : ℕ → Bool) (f : ℕ → Answer Payload) → is_whole (get_or store at 0) ≡ true → restored_by too_long f (some (dump_at store at)) ≡ roomed too_long (whole_at store at)
+  pub whole_here : (too_long : ℕ → Bool) (f : ℕ → Answer Payload) → is_whole (get_or store at 0) ≡ true → restored_by too_long f (Some (dump_at store at)) ≡ roomed too_long (whole_at store at)
   unfolding dump_of
   whole_here too_long f e = rw e
 
@@ -52,15 +50,15 @@ module _ (store : List ℕ) (at : ℕ) (d : is_dump (get_or store at 0) ≡ true
       rw (e, body_pair store at 2 kind (omega arith), q)
 
   pub delta-here : (too_long : ℕ → Bool) (f : ℕ → Answer Payload) → is_whole (get_or store at 0) ≡ false
-      → restored_by too_long f (some (dump_at store at)) ≡ rebuilt too_long (patches_in (records_from store (next_at store at))) (f (pair_at store (at + 3)))
-  delta-here too_long f e = ap (λ (d : Dump). restored_by too_long f (some d)) (delta_dump e)
+      → restored_by too_long f (Some (dump_at store at)) ≡ rebuilt too_long (patches_in (records_from store (next_at store at))) (f (pair_at store (at + 3)))
+  delta-here too_long f e = ap (λ (d : Dump). restored_by too_long f (Some d)) (delta_dump e)
 
-  pub whole_base : is_whole (get_or store at 0) ≡ true → base_of (some (dump_at store at)) ≡ none
+  pub whole_base : is_whole (get_or store at 0) ≡ true → base_of (Some (dump_at store at)) ≡ None
   unfolding dump_of
   whole_base e = rw e
 
-  pub delta_base : is_whole (get_or store at 0) ≡ false → base_of (some (dump_at store at)) ≡ some (pair_at store (at + 3))
-  delta_base e = ap (λ (d : Dump). base_of (some d)) (delta_dump e)
+  pub delta_base : is_whole (get_or store at 0) ≡ false → base_of (Some (dump_at store at)) ≡ Some (pair_at store (at + 3))
+  delta_base e = ap (λ (d : Dump). base_of (Some d)) (delta_dump e)
 
   pub group_here : get_or store (at + 3) 0 ≡ (whole_at store at).group
   group_here = let q : at + 1 + 2 ≡ at + 3 = omega arith in ap (λ (k : ℕ). get_or store k 0) (sym q) ∙ sym (body_byte store at 2 kind (omega arith))
@@ -74,10 +72,10 @@ module _ (too_long : ℕ → Bool) (store : List ℕ) (left n : ℕ) (h : left �
   abbrev dumps : List Dump
   dumps = dumps_of store
 
-  pub step_missing : none ≡ held dumps n → restored too_long dumps left n ≡ refused 24 0
+  pub step_missing : None ≡ held dumps n → restored too_long dumps left n ≡ refused 24 0
   step_missing q = restored-step too_long dumps left n h ∙ ap (restored_by too_long (λ base. restored too_long dumps (left - 1) base)) (sym q)
 
-  module _ (at : ℕ) (d : is_dump (get_or store at 0) ≡ true) (q : some (dump_at store at) ≡ held dumps n) where
+  module _ (at : ℕ) (d : is_dump (get_or store at 0) ≡ true) (q : Some (dump_at store at) ≡ held dumps n) where
     pub step_whole : is_whole (get_or store at 0) ≡ true → roomed too_long (whole_at store at) ≡ restored too_long dumps left n
     step_whole e =
         sym (whole_here store at d too_long (λ base. restored too_long dumps (left - 1) base) e)
@@ -100,8 +98,8 @@ module _ (too_long : ℕ → Bool) (store : List ℕ) (left n : ℕ) (h : left �
       step_gives g = ap (rebuilt too_long (patches_in (records_from store (next_at store at)))) (sym g ∙ ap (restored too_long dumps (left - 1)) w) ∙ step_delta e
 
 -- what was found stands there
-pub found_at : (store : List ℕ) {r : Found} {at : ℕ} → FoundDump store r → r ≡ found.At at → (at < length store) × (is_dump (get_or store at 0) ≡ true)
+pub found_at : (store : List ℕ) {r : (Option ℕ)} {at : ℕ} → FoundDump store r → r ≡ Some at → (at < length store) × (is_dump (get_or store at 0) ≡ true)
 found_at store l e = rw e at l
 
-pub found_within : (store : List ℕ) {r : Found} {at : ℕ} → FoundInside store r → r ≡ found.At at → at < length store
+pub found_within : (store : List ℕ) {r : (Option ℕ)} {at : ℕ} → FoundInside store r → r ≡ Some at → at < length store
 found_within store l e = rw e at l

@@ -1,6 +1,7 @@
 -- Any two outcomes that the promise of `describe` allows are equal. Assumes nothing.
+use Rattle.std.specs.Prelude.{Option, None, Some, Result, Ok, Err}
+use Rattle.refusal.specs.declared.Fault.{Fault}
 use mathlib.Core.Path.{◌≡◌, refl, sym, ap, ◌∙◌}
-use mathlib.Core.Option.{Option, none, some}
 use Prim.Native.Nat.{ℕ}
 use Rattle.refusal.specs.Answer.{Answer, gives, refused}
 use Rattle.refusal.specs.Tight.{FixesResult}
@@ -13,14 +14,12 @@ use Rattle.chain.specs.Meaning.{basis_meaning, description_meaning, described_me
 use Rattle.chain.specs.declared.Basis.{Basis}
 use Rattle.chain.specs.declared.Basis.TheVariants as basis
 use Rattle.chain.specs.declared.Description.{Description}
-use Rattle.chain.specs.declared.Described.{Described}
-use Rattle.chain.specs.declared.Described.TheVariants as described
 use Rattle.chain.proofs.describe.Kinds as describe-kinds
 use Rattle.chain.proofs.describe.Reads as describe
 
 abbrev basis_back : Option ℕ → Basis
-basis_back none = basis.Whole
-basis_back (some base) = basis.Delta base
+basis_back None = basis.Whole
+basis_back (Some base) = basis.Delta base
 
 basis-back : (b : Basis) → basis_back (basis_meaning b) ≡ b
 basis-back basis.Whole = refl
@@ -30,21 +29,21 @@ basis-back (basis.Delta base) = refl
 abbrev struct_of : paper.Description → Basis → Description
 struct_of d b = record { basis = b; group = d.group; id = d.id; size = d.size; words = d.words; steps = d.steps }
 
-abbrev pub described_back : Answer paper.Description → Described
-described_back (gives d) = described.Dump (struct_of d (basis_back d.base))
-described_back (refused number place) = described.Refused (fault_back number place)
+abbrev pub described_back : Answer paper.Description → (Result Description Fault)
+described_back (gives d) = Ok (struct_of d (basis_back d.base))
+described_back (refused number place) = Err (fault_back number place)
 
-described-back : (x : Described) → described_back (described_meaning x) ≡ x
-described-back (described.Dump d) = ap (λ (b : Basis). described.Dump (struct_of (description_meaning d) b)) (basis-back d.basis)
-described-back (described.Refused fault) = ap described.Refused (fault-back fault)
+described-back : (x : (Result Description Fault)) → described_back (described_meaning x) ≡ x
+described-back (Ok d) = ap (λ (b : Basis). Ok (struct_of (description_meaning d) b)) (basis-back d.basis)
+described-back (Err fault) = ap Err (fault-back fault)
 
 describe_unique : FixesResult 1 describe-kinds.ps describe-kinds.r describe.Post
 describe_unique κs a x y s t p q = once described_meaning described_back described-back x y (p ∙ sym q)
 
 -- each outcome whose refusals have names is the meaning of an answer
 basis_meant : (o : Option ℕ) → basis_meaning (basis_back o) ≡ o
-basis_meant none = refl
-basis_meant (some base) = refl
+basis_meant None = refl
+basis_meant (Some base) = refl
 
 pub described_meant : (answer : Answer paper.Description) → Named answer → described_meaning (described_back answer) ≡ answer
 described_meant (gives d) h =

@@ -1,7 +1,7 @@
 -- The edits of each delta are in order, and no restored dump is longer than the store. Assumes nothing.
+use Rattle.std.specs.Prelude.{Some}
 use mathlib.Core.Path.{◌≡◌, refl, sym, ap, ◌∙◌}
 use mathlib.Core.Bool.{Bool, true, false, cond}
-use mathlib.Core.Option.{some}
 use mathlib.Core.List.{List, [], ◌∷◌, ◌++◌}
 use Prim.Native.Nat.{ℕ, zero, suc, ◌+◌, ◌≤◌}
 use native.Mathlib.Omega.{arith}
@@ -24,7 +24,7 @@ use Rattle.chain.proofs.Making.{Made, of_whole, of_delta, made, apart}
 use Rattle.chain.proofs.Orders.{restored_agree}
 
 pub held_ordered : (store : List ℕ) → well_formed at_start (records_of store) ≡ true → (n : ℕ) {number base : ℕ} {patches : List Patch}
-    → held (dumps_of store) n ≡ some (delta number base patches) → Ordered 0 patches
+    → held (dumps_of store) n ≡ Some (delta number base patches) → Ordered 0 patches
 held_ordered store e n q = held_all Formed (dumps_of store) n (all_formed at_start (records_of store) e) q
 
 -- ---- a payload grows by no more than the bytes put in
@@ -78,7 +78,7 @@ without_less n (d ∷ ds) = go (without_less n ds) (eqb n (dump_number d))
     go more true = omega arith
     go more false = omega arith
 
-without-held : (n : ℕ) (ds : List Dump) {d : Dump} → held ds n ≡ some d → weight d + weights (without n ds) ≤ weights ds
+without-held : (n : ℕ) (ds : List Dump) {d : Dump} → held ds n ≡ Some d → weight d + weights (without n ds) ≤ weights ds
 unfolding weights without
 without-held n ds {d} e =
     held_by n d (λ ds. weight d + weights (without n ds) ≤ weights ds)
@@ -105,7 +105,7 @@ other_held n [] m h = refl
 other_held n (d ∷ ds) m h = go (other_held n ds m h) (eqb n (dump_number d)) (eqb m (dump_number d)) refl refl
   where
     go : held ds m ≡ held (without n ds) m → (a b : Bool) → eqb n (dump_number d) ≡ a → eqb m (dump_number d) ≡ b
-        → cond b (some d) (held ds m) ≡ held (cond a (without n ds) (d ∷ without n ds)) m
+        → cond b (Some d) (held ds m) ≡ held (cond a (without n ds) (d ∷ without n ds)) m
     go more true true p q = absurd (h (eqb-true m (dump_number d) q ∙ sym (eqb-true n (dump_number d) p)))
     go more true false p q = more
     go more false true p q = rw q
@@ -113,16 +113,16 @@ other_held n (d ∷ ds) m h = go (other_held n ds m h) (eqb n (dump_number d)) (
 
 -- a walk that never comes to n needs no dump of that number
 abbrev Avoids : List Dump → ℕ → ℕ → Type 0
-Avoids ds n m = (k : ℕ) → comes ds k m ≡ some n → ⊥
+Avoids ds n m = (k : ℕ) → comes ds k m ≡ Some n → ⊥
 
 module _ (ds : List Dump) (n : ℕ) where
-  avoids_base : (m b : ℕ) → Avoids ds n m → base_of (held ds m) ≡ some b → Avoids ds n b
+  avoids_base : (m b : ℕ) → Avoids ds n m → base_of (held ds m) ≡ Some b → Avoids ds n b
   unfolding comes
   avoids_base m b h q k c = h (suc k) (rw q c)
 
   avoids_number : (m : ℕ) → Avoids ds n m → m ≡ n → ⊥
   unfolding comes
-  avoids_number m h e = h 0 (ap (λ (x : ℕ). some x) e)
+  avoids_number m h e = h 0 (ap (λ (x : ℕ). Some x) e)
 
   restored-without : (too_long : ℕ → Bool) (left m : ℕ) → Avoids ds n m
       → restored too_long ds left m ≡ restored too_long (without n ds) left m
@@ -130,7 +130,7 @@ module _ (ds : List Dump) (n : ℕ) where
       restored_agree ds (without n ds) (Avoids ds n) (λ m a. other_held n ds m (avoids_number m a)) avoids_base too_long left m h
 
   -- a dump that is restored is not its own base's base
-  restored_avoids : (too_long : ℕ → Bool) (left b : ℕ) {p : Payload} → base_of (held ds n) ≡ some b → restored too_long ds left n ≡ gives p
+  restored_avoids : (too_long : ℕ → Bool) (left b : ℕ) {p : Payload} → base_of (held ds n) ≡ Some b → restored too_long ds left n ≡ gives p
       → Avoids ds n b
   unfolding comes
   restored_avoids too_long left b q e k c =

@@ -1,7 +1,6 @@
 -- What an auditor asks of restoring, by whatever call: where each octet comes from, and that a delta's edits come to the same in any order.
 -- Assumes nothing.
-use Rattle.std.specs.Prelude.{◌≡◌, List, [], ℕ, suc, ◌+◌, ◌≤◌, ◌<◌, length, take}
-use Rattle.std.proofs.Math.Option.{some}
+use Rattle.std.specs.Prelude.{Some, ◌≡◌, List, [], ℕ, suc, ◌+◌, ◌≤◌, ◌<◌, length, take}
 use Rattle.refusal.specs.Answer.{gives}
 use Rattle.ump.specs.Word.{Below}
 use Rattle.ump.specs.Packet.{sysex8}
@@ -46,7 +45,7 @@ pub record AuditedDump (Restores : Restorer) (calls : Calls (List ℕ) Edit) : T
   -- where there is room for it beside all replacement bytes, one after the other in any order and with any outcomes of the calls, come to
   -- what restoring the delta gives.
   pub in_any_order : {store : List ℕ} {n number base : ℕ} {patches : List Patch}
-      → held (dumps_of store) n ≡ some (delta number base patches)
+      → held (dumps_of store) n ≡ Some (delta number base patches)
       → {words left : List ℕ} {len : ℕ} → Restores store base words (gives len) left
       → {words-other left_other : List ℕ} {size : ℕ} → Restores store n words-other (gives size) left_other
       → Below 256 store → 0 < length patches → words_for sysex8 (length (payload_of sysex8 left len) + all_bytes patches) ≤ length words

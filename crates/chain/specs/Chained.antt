@@ -1,7 +1,6 @@
 -- What is promised of restoring and describing a dump (02, T-02), of any two calls.
 -- Assumes nothing.
-use Rattle.std.specs.Prelude.{◌≡◌, ◌↔◌, ◌⊎◌, List, [], ◌∷◌, ℕ, ◌≤◌, ◌<◌, length}
-use Rattle.std.proofs.Math.Option.{some}
+use Rattle.std.specs.Prelude.{Some, ◌≡◌, ◌↔◌, ◌⊎◌, List, [], ◌∷◌, ℕ, ◌≤◌, ◌<◌, length}
 use Rattle.refusal.specs.Answer.{Answer, gives, refused, pass}
 use Rattle.ump.specs.Packet.{sysex8}
 use Rattle.ump.specs.Packing.{words_for}
@@ -29,8 +28,8 @@ pub record Reencoded (dumps : List Dump) (n : ℕ) : Type 0 where
   pub descendant : ℕ
   pub patches : List Patch
   pub steps : ℕ
-  pub is_held : held dumps n ≡ some (delta n descendant patches)
-  pub descends : comes dumps steps descendant ≡ some n
+  pub is_held : held dumps n ≡ Some (delta n descendant patches)
+  pub descends : comes dumps steps descendant ≡ Some n
 
 -- what a description says of the walk: it comes in so many steps to a whole dump of this group and stream id
 pub record Foot (dumps : List Dump) (n : ℕ) (d : Description) : Type 0 where
@@ -57,7 +56,7 @@ pub record Answers {A B : Type 0} (Call : Answer A → B → Type 0) : Type 0 wh
   pub call : Call answer left
 
 pub record Chained (Restores : Restorer) (Describes : Describer) : Type 0 where
-  -- Each store, number and words have an outcome, so that nothing here is said of none.
+  -- Each store, number and words have an outcome, so that nothing here is said of None.
   pub answers : (store : List ℕ) (n : ℕ)
       → ((words : List ℕ) → Answers (Restores store n words))
       × Answers (λ (answer : Answer Description) (left : Unit {0}). Describes store n answer)
@@ -80,11 +79,11 @@ pub record Chained (Restores : Restorer) (Describes : Describer) : Type 0 where
       → Rests (dumps_of store) n
   -- A dump made a delta against its own descendant, and every dump whose walk comes to it, is refused as a ring; the words stay.
   pub re_encoded : {store : List ℕ} {n : ℕ} → sound store ≡ pass → Reencoded (dumps_of store) n
-      → (m steps : ℕ) → comes (dumps_of store) steps m ≡ some n
+      → (m steps : ℕ) → comes (dumps_of store) steps m ≡ Some n
       → {words : List ℕ} {answer : Answer ℕ} {left : List ℕ} → length words ≤ most_words → Restores store m words answer left
       → (answer ≡ refused 25 0) × (left ≡ words)
   -- A delta without edits is restored as its base is: the same answer, whatever it is, and the same words left.
-  pub bare : {store : List ℕ} {n number base : ℕ} → held (dumps_of store) n ≡ some (delta number base [])
+  pub bare : {store : List ℕ} {n number base : ℕ} → held (dumps_of store) n ≡ Some (delta number base [])
       → {words : List ℕ} {answer then : Answer ℕ} {left after : List ℕ} → Restores store n words answer left
       → Restores store base words then after
       → (answer ≡ then) × (left ≡ after)

@@ -1,6 +1,6 @@
 -- What the edits of a delta are by their records, and what measuring a dump means. For the code's own promises; no public promise needs it.
 -- Assumes nothing.
-use Rattle.std.specs.Prelude.{◌≡◌, Bool, true, false, ◌&&◌, ◌||◌, List, ℕ, suc, ◌+◌, ◌-◌, ◌≤◌, max, ltb, length, get_or}
+use Rattle.std.specs.Prelude.{Result, Ok, Err, ◌≡◌, Bool, true, false, ◌&&◌, ◌||◌, List, ℕ, suc, ◌+◌, ◌-◌, ◌≤◌, max, ltb, length, get_or}
 use Rattle.refusal.specs.Answer.{gives, refused}
 use Rattle.refusal.specs.Number.{number_of}
 use Rattle.refusal.specs.declared.Refusal.{Refusal}
@@ -11,8 +11,6 @@ use Rattle.store.specs.Places.{record_at, next_at, records_from}
 use Rattle.chain.specs.Restore.{Payload, outside, restored, unlimited, sizes, largest}
 use Rattle.chain.specs.declared.edits.Reached.{Reached}
 use Rattle.chain.specs.declared.measuring.Extent.{Extent}
-use Rattle.chain.specs.declared.measuring.Measured.{Measured}
-use Rattle.chain.specs.declared.measuring.Measured.TheVariants as measured
 
 -- ---- the edits of a delta
 
@@ -61,9 +59,9 @@ pub record MeasureOf (dumps : List Dump) (left n : ℕ) (m : Extent) : Type 0 wh
   pub steps : suc m.steps ≡ length (sizes dumps left n)
 
 -- or is refused
-pub record Measures (dumps : List Dump) (left n : ℕ) (r : Measured) : Type 0 where
-  pub dump : (m : Extent) → r ≡ measured.Dump m → MeasureOf dumps left n m
-  pub refuses : (refusal : Refusal) → r ≡ measured.Refused refusal → restored unlimited dumps left n ≡ refused (number_of refusal) 0
+pub record Measures (dumps : List Dump) (left n : ℕ) (r : (Result Extent Refusal)) : Type 0 where
+  pub dump : (m : Extent) → r ≡ Ok m → MeasureOf dumps left n m
+  pub refuses : (refusal : Refusal) → r ≡ Err refusal → restored unlimited dumps left n ≡ refused (number_of refusal) 0
 
 -- what a whole dump's record at a place measures
 pub record MeasuresWhole (store : List ℕ) (at : ℕ) (m : Extent) : Type 0 where
@@ -82,6 +80,6 @@ pub record DeltaMeasure (patches : List Patch) (base m : Extent) : Type 0 where
   pub steps : m.steps ≡ suc base.steps
 
 -- what a delta's edits make of its base's measure: Range, or the size that its payload then has
-pub record MeasuresDelta (patches : List Patch) (base : Extent) (r : Measured) : Type 0 where
-  pub dump : (m : Extent) → r ≡ measured.Dump m → DeltaMeasure patches base m
-  pub refuses : (refusal : Refusal) → r ≡ measured.Refused refusal → (number_of refusal ≡ 13) × (outside base.size patches ≡ true)
+pub record MeasuresDelta (patches : List Patch) (base : Extent) (r : (Result Extent Refusal)) : Type 0 where
+  pub dump : (m : Extent) → r ≡ Ok m → DeltaMeasure patches base m
+  pub refuses : (refusal : Refusal) → r ≡ Err refusal → (number_of refusal ≡ 13) × (outside base.size patches ≡ true)

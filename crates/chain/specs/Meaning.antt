@@ -1,7 +1,7 @@
 -- What the answers mean: a refusal's number and place, or the values.
 -- Assumes nothing.
-use Rattle.std.specs.Prelude.{◌≡◌, List, ℕ, ◌<◌}
-use Rattle.std.proofs.Math.Option.{Option, none, some}
+use Rattle.refusal.specs.declared.Fault.{Fault}
+use Rattle.std.specs.Prelude.{Option, None, Some, Result, Ok, Err, ◌≡◌, List, ℕ, ◌<◌}
 use Rattle.refusal.specs.Answer.{Answer, gives}
 use Rattle.refusal.specs.Meaning.{fault_of}
 use Rattle.store.specs.Store.{dumps_of, held}
@@ -11,12 +11,10 @@ use Rattle.chain.specs.Restore as paper
 use Rattle.chain.specs.declared.Basis.{Basis}
 use Rattle.chain.specs.declared.Basis.TheVariants as basis
 use Rattle.chain.specs.declared.Description.{Description}
-use Rattle.chain.specs.declared.Described.{Described}
-use Rattle.chain.specs.declared.Described.TheVariants as described
 
 abbrev pub basis_meaning : Basis → Option ℕ
-basis_meaning basis.Whole = none
-basis_meaning (basis.Delta base) = some base
+basis_meaning basis.Whole = None
+basis_meaning (basis.Delta base) = Some base
 
 -- a base is a number of two bytes
 abbrev pub Small : Basis → Type 0
@@ -32,6 +30,6 @@ abbrev pub description_meaning : Description → paper.Description
 description_meaning d =
     record { base = basis_meaning d.basis; group = d.group; id = d.id; size = d.size; words = d.words; steps = d.steps }
 
-abbrev pub described_meaning : Described → Answer paper.Description
-described_meaning (described.Dump d) = gives (description_meaning d)
-described_meaning (described.Refused fault) = fault_of fault
+abbrev pub described_meaning : (Result Description Fault) → Answer paper.Description
+described_meaning (Ok d) = gives (description_meaning d)
+described_meaning (Err fault) = fault_of fault

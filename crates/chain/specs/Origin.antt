@@ -1,7 +1,6 @@
 -- Of the words lent after a dump is restored: where each octet comes from.
 -- Assumes nothing.
-use Rattle.std.specs.Prelude.{◌≡◌, List, [], ◌∷◌, ℕ, zero, suc, ◌*◌, ◌<◌, length, get_or}
-use Rattle.std.proofs.Math.Option.{Option, none, some}
+use Rattle.std.specs.Prelude.{Option, None, Some, ◌≡◌, List, [], ◌∷◌, ℕ, zero, suc, ◌*◌, ◌<◌, length, get_or}
 use Rattle.ump.specs.Word.{octets}
 use Rattle.ump.specs.Packet.{sysex8}
 use Rattle.ump.specs.Packing.{words_for}
@@ -26,9 +25,9 @@ source_by f number (of_edit k start end) = delta_byte number k start
 source_by f number past = nowhere
 
 abbrev pub source_in : (ℕ → ℕ) → (ℕ → ℕ → Provenance) → Option Dump → ℕ → Provenance
-source_in size f none i = nowhere
-source_in size f (some (whole number group id bytes)) i = whole_byte number i
-source_in size f (some (delta number base patches)) i = source_by (f base) number (run_at (size base) (edits_for patches) i)
+source_in size f None i = nowhere
+source_in size f (Some (whole number group id bytes)) i = whole_byte number i
+source_in size f (Some (delta number base patches)) i = source_by (f base) number (run_at (size base) (edits_for patches) i)
 
 -- byte i of the dump held under n
 unfoldable pub source_of : List Dump → ℕ → ℕ → ℕ → Provenance
@@ -38,9 +37,9 @@ source_of dumps (suc left) n i =
 
 -- the byte that comes from there
 abbrev pub held_byte : Option Dump → ℕ → ℕ → ℕ
-held_byte none k j = 0
-held_byte (some (whole number group id bytes)) k j = get_or bytes j 0
-held_byte (some (delta number base patches)) k j = get_or (patch_at patches k).bytes j 0
+held_byte None k j = 0
+held_byte (Some (whole number group id bytes)) k j = get_or bytes j 0
+held_byte (Some (delta number base patches)) k j = get_or (patch_at patches k).bytes j 0
 
 abbrev pub proven_byte : List Dump → Provenance → ℕ
 proven_byte dumps (whole_byte number i) = held_byte (held dumps number) 0 i
@@ -53,16 +52,16 @@ pub record OfWhole (dumps : List Dump) (n number i : ℕ) : Type 0 where
   pub group : ℕ
   pub id : ℕ
   pub bytes : List ℕ
-  pub come : comes dumps steps n ≡ some number
-  pub is_held : held dumps number ≡ some (whole number group id bytes)
+  pub come : comes dumps steps n ≡ Some number
+  pub is_held : held dumps number ≡ Some (whole number group id bytes)
   pub inside : i < length bytes
 
 pub record OfDelta (dumps : List Dump) (n number k j : ℕ) : Type 0 where
   pub steps : ℕ
   pub base : ℕ
   pub patches : List Patch
-  pub come : comes dumps steps n ≡ some number
-  pub is_held : held dumps number ≡ some (delta number base patches)
+  pub come : comes dumps steps n ≡ Some number
+  pub is_held : held dumps number ≡ Some (delta number base patches)
   pub edit : k < length patches
   pub inside : j < length (patch_at patches k).bytes
 

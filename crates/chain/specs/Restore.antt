@@ -1,7 +1,6 @@
 -- Restoring a dump (02, T-02): its base first, then all its edits at once; and describing it.
 -- Assumes nothing.
-use Rattle.std.specs.Prelude.{Bool, false, ◌||◌, List, [], ◌∷◌, ◌++◌, ℕ, zero, suc, ◌-◌, max, ltb, length, replicate}
-use Rattle.std.proofs.Math.Option.{Option, none, some}
+use Rattle.std.specs.Prelude.{Option, None, Some, Bool, false, ◌||◌, List, [], ◌∷◌, ◌++◌, ℕ, zero, suc, ◌-◌, max, ltb, length, replicate}
 use Rattle.refusal.specs.Answer.{Answer, gives, refused, ◌▷◌, guard, map_answer, writes_as}
 use Rattle.ump.specs.Packet.{sysex8}
 use Rattle.ump.specs.Packing.{pack, words_for}
@@ -38,9 +37,9 @@ rebuilt too_long patches (gives base) =
 
 -- a dump, where its base is restored by f: Missing; a whole dump's Room; a delta from its base
 abbrev pub restored_by : (ℕ → Bool) → (ℕ → Answer Payload) → Option Dump → Answer Payload
-restored_by too_long f none = refused 24 0
-restored_by too_long f (some (whole number group id bytes)) = roomed too_long (record { group = group; id = id; bytes = bytes })
-restored_by too_long f (some (delta number base patches)) = rebuilt too_long patches (f base)
+restored_by too_long f None = refused 24 0
+restored_by too_long f (Some (whole number group id bytes)) = roomed too_long (record { group = group; id = id; bytes = bytes })
+restored_by too_long f (Some (delta number base patches)) = rebuilt too_long patches (f base)
 
 -- the dump held under a number, its base first; Ring where more dumps are passed than there are
 unfoldable pub restored : (ℕ → Bool) → List Dump → ℕ → ℕ → Answer Payload

@@ -1,7 +1,6 @@
 -- Samples of the definitions, by computing.
 -- Assumes nothing.
-use Rattle.std.specs.Prelude.{◌≡◌, refl, List, [], ◌∷◌, ◌++◌, ℕ, replicate}
-use Rattle.std.proofs.Math.Option.{none, some}
+use Rattle.std.specs.Prelude.{None, Some, ◌≡◌, refl, List, [], ◌∷◌, ◌++◌, ℕ, replicate}
 use Rattle.refusal.specs.Answer.{Answer, gives, refused}
 use Rattle.ump.specs.Word.{words_of}
 use Rattle.ump.specs.Packet.{joined}
@@ -76,9 +75,9 @@ pub record Samples : Type 0 where
   pub unsound : (restore (one ++ (0x04 ∷ [])) 1 (sevens 4) ≡ refuses 21 4)
       × (restore (one ++ (bare 2 1 ++ bare 2 1)) 1 (sevens 4) ≡ refuses 22 4)
   -- what a whole dump says, and a delta; one whose base needs more words than itself
-  pub describes : (describe one 1 ≡ gives (record { base = none; group = 2; id = 7; size = 2; words = 4; steps = 0 }))
-      × (describe (three ++ (two ++ one)) 3 ≡ gives (record { base = some 2; group = 2; id = 7; size = 3; words = 4; steps = 2 }))
-      × (describe shorter 2 ≡ gives (record { base = some 1; group = 0; id = 0; size = 13; words = 8; steps = 1 }))
+  pub describes : (describe one 1 ≡ gives (record { base = None; group = 2; id = 7; size = 2; words = 4; steps = 0 }))
+      × (describe (three ++ (two ++ one)) 3 ≡ gives (record { base = Some 2; group = 2; id = 7; size = 3; words = 4; steps = 2 }))
+      × (describe shorter 2 ≡ gives (record { base = Some 1; group = 0; id = 0; size = 13; words = 8; steps = 1 }))
   -- describing is refused as restoring is, but for Long and Room
   pub undescribed : (describe one 5 ≡ refused 24 0)
       × (describe (bare 3 3) 3 ≡ refused 25 0)

@@ -8,13 +8,14 @@ ghost use Rattle.chain.specs.Laying.{bad_edit_at, Past};
 use store::record::{byte, is_data, is_edit, next, number_at};
 
 // Where data ends, and how many bytes are laid out or counted with it.
-#[derive(Drop)]
+#[derive(Clone, Copy, Debug, PartialEq, Eq)]
 pub struct Reached {
     pub at: usize,
     pub size: usize,
 }
 
 // The first place at `at` or behind it that is no data.
+// A `while`: the step is a record's length, which its kind says.
 pub fn skip_data(store: &[u8], at: usize) -> usize
     ensures { Past store.now at result }
 {
@@ -29,10 +30,7 @@ pub fn skip_data(store: &[u8], at: usize) -> usize
 fn is_part(kind: u8) -> bool
     ensures { result ≡ is_edit kind || is_data kind }
 {
-    if is_edit(kind) {
-        return true;
-    }
-    is_data(kind)
+    is_edit(kind) || is_data(kind)
 }
 
 // Whether an edit stands at a place that is reversed or past a payload of `size` bytes.
@@ -45,13 +43,11 @@ fn is_bad_edit(store: &[u8], at: usize, size: usize) -> bool
     }
     let from = number_at(store, at + 1);
     let to = number_at(store, at + 3);
-    if to < from {
-        return true;
-    }
-    size < to
+    to < from || size < to
 }
 
 // Whether an edit of the delta, whose edits begin at a place, is reversed or past a payload of `size` bytes.
+// A `while`: the step is a record's length, which its kind says.
 pub fn some_outside(store: &[u8], at: usize, size: usize) -> bool
     ensures { result ≡ outside size (patches_in (records_from store.now at)) }
 {

@@ -1,5 +1,5 @@
 // Measuring a dump without laying it out: its payload size, the largest on the way, and how many bases are followed.
-ghost use Rattle.std.specs.Prelude.{◌≡◌, true, false, ◌<◌, ◌≤◌, max, length, get_or};
+ghost use Rattle.std.specs.Prelude.{◌≡◌, true, false, ◌<◌, ◌≤◌, length, get_or};
 ghost use Rattle.refusal.specs.Answer.{pass};
 ghost use Rattle.store.specs.Store.{is_whole, dumps_of, patches_in, sound};
 ghost use Rattle.store.specs.Places.{next_at, records_from, Noted, Ordered};
@@ -8,12 +8,12 @@ ghost use Rattle.chain.specs.Laying.{DataSized, Becomes, Measures, MeasuresWhole
 
 use crate::edits::{Reached, skip_data, some_outside};
 use refusal::Refusal;
-use store::finding::{Found, find};
+use store::finding::find;
 use store::record::{body_here, byte, is_data, is_edit, is_whole, next, number_at};
 
 // What a dump measures: the group and stream id of its whole dump, its payload size, the largest on the way, its own counted, and how many
 // bases are followed.
-#[derive(Drop)]
+#[derive(Clone, Copy, Debug, PartialEq, Eq)]
 pub struct Extent {
     pub group: u8,
     pub id: u8,
@@ -22,14 +22,8 @@ pub struct Extent {
     pub steps: usize,
 }
 
-// A dump measured, or why it is not.
-#[derive(Drop)]
-pub enum Measured {
-    Dump(Extent),
-    Refused(Refusal),
-}
-
 // How many bytes the data has that begins at a place, and where it ends.
+// A `while`: the step is a record's length, which its kind says.
 pub fn measure_data(store: &[u8], at: usize) -> Reached
     ensures { DataSized store.now at result }
 {
@@ -43,6 +37,7 @@ pub fn measure_data(store: &[u8], at: usize) -> Reached
 }
 
 // The payload size of a base of `size` bytes with all edits of a delta, which begin at a place, put in.
+// A `while`: the step is a record's length, which its kind says.
 fn measure_edits(store: &[u8], at: usize, size: usize) -> usize
     requires { (size ≤ length store.now) × ((outside size (patches_in (records_from store.now at)) ≡ false)
         × Ordered 0 (patches_in (records_from store.now at))) }
@@ -58,16 +53,6 @@ fn measure_edits(store: &[u8], at: usize, size: usize) -> usize
         place = reached.at;
     }
     done + (size - end)
-}
-
-// The greater of two numbers.
-fn greater(one: usize, other: usize) -> usize
-    ensures { result ≡ max one other }
-{
-    if one < other {
-        return other;
-    }
-    one
 }
 
 // Measures the whole dump whose record stands at a place.
@@ -86,46 +71,43 @@ fn measure_whole(store: &[u8], at: usize) -> Extent
 }
 
 // Measures the delta whose record stands at a place, from the measure of its base: Range.
-fn measure_delta(store: &[u8], at: usize, base: Extent) -> Measured
+fn measure_delta(store: &[u8], at: usize, base: Extent) -> Result<Extent, Refusal>
     requires { (at < length store.now) × ((base.size ≤ length store.now) × ((base.steps < 256)
         × Ordered 0 (patches_in (records_from store.now (next_at store.now at))))) }
     ensures { MeasuresDelta (patches_in (records_from store.now (next_at store.now at))) base result }
 {
     let place = next(store, at);
     if some_outside(store, place, base.size) {
-        return Measured::Refused(Refusal::Range);
+        return Err(Refusal::Range);
     }
     let size = measure_edits(store, place, base.size);
-    Measured::Dump(Extent {
+    Ok(Extent {
         group: base.group,
         id: base.id,
         size,
-        largest: greater(size, base.largest),
+        largest: size.max(base.largest),
         steps: base.steps + 1,
     })
 }
 
 // Measures the dump of this number, its base first, where the walk may come to `left` numbers more: Ring, Missing, and then Range along the
 // walk, the base's before its delta's.
-pub fn measure(store: &[u8], places: &[usize], number: usize, left: usize) -> Measured
+pub fn measure(
+    store: &[u8],
+    places: &[usize],
+    number: usize,
+    left: usize,
+) -> Result<Extent, Refusal>
     requires { Noted store.now places.now × ((sound store.now ≡ pass) × (left ≤ 257)) }
     ensures { Measures (dumps_of store.now) left number result }
 {
     if left == 0 {
-        return Measured::Refused(Refusal::Ring);
+        return Err(Refusal::Ring);
     }
-    let found = find(store, places, number);
-    match found {
-        Found::Nothing => Measured::Refused(Refusal::Missing),
-        Found::At(at) => {
-            if is_whole(byte(store, at)) {
-                return Measured::Dump(measure_whole(store, at));
-            }
-            let base = measure(store, places, number_at(store, at + 3), left - 1);
-            match base {
-                Measured::Refused(refusal) => Measured::Refused(refusal),
-                Measured::Dump(below) => measure_delta(store, at, below),
-            }
-        }
+    let at = find(store, places, number).ok_or(Refusal::Missing)?;
+    if is_whole(byte(store, at)) {
+        return Ok(measure_whole(store, at));
     }
+    let base = measure(store, places, number_at(store, at + 3), left - 1)?;
+    measure_delta(store, at, base)
 }

@@ -11,6 +11,5 @@ fn main(rt: HostRuntime) -> io::Result<()> {
     limits::report_long_walks(&rt)?;
     limits::report_sizes(&rt)?;
     limits::report_small_sizes(&rt)?;
-    limits::report_described(&rt)?;
-    Ok(())
+    limits::report_described(&rt)
 }

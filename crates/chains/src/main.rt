@@ -3,6 +3,7 @@
 #![tactic(auto)]
 
 use std::io;
+use stores::samples::report_all;
 
 mod descriptions;
 mod dumps;
@@ -11,14 +12,13 @@ mod walks;
 
 // Writes a line for each sample.
 fn main(rt: HostRuntime) -> io::Result<()> {
-    dumps::report_whole(&rt)?;
-    dumps::report_deltas(&rt)?;
-    walks::report_rings(&rt)?;
-    walks::report_missing(&rt)?;
-    edits::report_ranges(&rt)?;
-    edits::report_rooms(&rt)?;
-    edits::report_on_the_way(&rt)?;
-    descriptions::report_given(&rt)?;
-    descriptions::report_refused(&rt)?;
-    Ok(())
+    report_all(&rt, &dumps::WHOLE)?;
+    report_all(&rt, &dumps::DELTAS)?;
+    report_all(&rt, &walks::RINGS)?;
+    report_all(&rt, &walks::MISSING)?;
+    report_all(&rt, &edits::RANGES)?;
+    report_all(&rt, &edits::ROOMS)?;
+    report_all(&rt, &edits::ON_THE_WAY)?;
+    report_all(&rt, &descriptions::GIVEN)?;
+    report_all(&rt, &descriptions::REFUSED)
 }

@@ -1,18 +1,11 @@
 // Samples of packing and splice.
-use compare::{MESSAGE, is_fault};
-use equality::words::same_words;
-use splice::sysex8::{Repacked, Spliced};
+use compare::MESSAGE;
+use refusal::{Fault, Refusal};
+use splice::sysex8::{Change, words_needed as needed};
 
 // Packing these words as one message answers this length and leaves the words expected.
 fn packs(words: &mut [u32], new: usize, expected: &[u32]) -> bool {
-    let repacked = splice::sysex8::repack(words, words.len());
-    let Repacked::Words(length) = repacked else {
-        return false;
-    };
-    if length != new {
-        return false;
-    }
-    same_words(words, expected)
+    splice::sysex8::repack(words, words.len()) == Ok(new) && &*words == expected
 }
 
 // 50110900 0 0 0 50310900 0 0 0 packs to 50010900 0 0 0.
@@ -66,7 +59,7 @@ pub(crate) fn packed() -> bool {
 }
 
 // P2 with 10..1C (13 bytes) put in at 1, in these words.
-fn put_in(words: &mut [u32]) -> Spliced {
+fn put_in(words: &mut [u32]) -> Result<Change, Fault> {
     splice::sysex8::splice(
         words,
         4,
@@ -79,76 +72,41 @@ fn put_in(words: &mut [u32]) -> Spliced {
 // In eight words: 521E0741 10111213 14151617 18191A1B 5233071C 42000000 0 0, growth 13.
 pub(crate) fn p6() -> bool {
     let mut words = [0x5203_0741u32, 0x4200_0000, 0, 0, 9, 9, 9, 9];
-    let spliced = put_in(&mut words);
-    let Spliced::Done(change) = spliced else {
-        return false;
-    };
-    if change.length != 8 {
-        return false;
+    let expected = [
+        0x521E_0741,
+        0x1011_1213,
+        0x1415_1617,
+        0x1819_1A1B,
+        0x5233_071C,
+        0x4200_0000,
+        0,
+        0,
+    ];
+    match put_in(&mut words) {
+        Ok(change) => (change.length, change.growth) == (8, 13) && words == expected,
+        Err(_) => false,
     }
-    if change.growth != 13 {
-        return false;
-    }
-    same_words(
-        &words,
-        &[
-            0x521E_0741,
-            0x1011_1213,
-            0x1415_1617,
-            0x1819_1A1B,
-            0x5233_071C,
-            0x4200_0000,
-            0,
-            0,
-        ],
-    )
 }
 
 // The same with 7 words lent: 14, and the words stay.
 pub(crate) fn p7() -> bool {
-    let mut words = [0x5203_0741u32, 0x4200_0000, 0, 0, 9, 9, 9];
-    let spliced = put_in(&mut words);
-    let Spliced::Refused(fault) = spliced else {
-        return false;
-    };
-    if !is_fault(fault, 14, 0) {
-        return false;
-    }
-    same_words(&words, &[0x5203_0741, 0x4200_0000, 0, 0, 9, 9, 9])
-}
-
-// A payload of this size takes this many words.
-fn takes(size: usize, words: usize) -> bool {
-    splice::sysex8::words_needed(size) == words
+    let before = [0x5203_0741u32, 0x4200_0000, 0, 0, 9, 9, 9];
+    let mut words = before;
+    put_in(&mut words) == Err(Refusal::Room.into()) && words == before
 }
 
 // Words for 0, 13, 14, 26, 27 bytes: 4, 4, 8, 8, 12. A size is no more than 64 bits hold: where 12 more would be too many, and the largest.
 pub(crate) fn words_needed() -> bool {
-    if !takes(0, 4) {
-        return false;
-    }
-    if !takes(13, 4) {
-        return false;
-    }
-    if !takes(14, 8) {
-        return false;
-    }
-    if !takes(26, 8) {
-        return false;
-    }
-    if !takes(27, 12) {
-        return false;
-    }
-    if !takes(0xFFFF_FFFF_FFFF_FFF4, 5675921253449092804) {
-        return false;
-    }
-    takes(0xFFFF_FFFF_FFFF_FFFF, 5675921253449092808)
+    needed(0) == 4
+        && needed(13) == 4
+        && needed(14) == 8
+        && needed(26) == 8
+        && needed(27) == 12
+        && needed(0xFFFF_FFFF_FFFF_FFF4) == 5675921253449092804
+        && needed(0xFFFF_FFFF_FFFF_FFFF) == 5675921253449092808
 }
 
 // 53,248 bytes fit 16,384 words, 53,249 never do.
 pub(crate) fn most_bytes() -> bool {
-    if !takes(53248, 16384) {
-        return false;
-    }
-    takes(53249, 16388)
+    needed(53248) == 16384 && needed(53249) == 16388
 }

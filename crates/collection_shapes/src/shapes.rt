@@ -1,61 +1,41 @@
 // Samples of 256 dumps in a chain, and in a star.
 use compare::report;
 use reclaims::collects_in;
-use reclaims::many::{mark_from, mark_odd, stays};
-use std::io;
-use stores::patterns::{Pattern, fill};
+use reclaims::many::{mark_all, stays};
+use std::{array, io};
+use stores::patterns::{chain, chain_down, chain_unwanted, star, star_of_evens};
 
 // 256 dumps in a chain.
 fn chain_wanted() -> bool {
-    let mut store = [0u8; 3072];
-    fill(&mut store, Pattern::Chain);
+    let mut store: [u8; 3072] = array::from_fn(chain);
     stays(&mut store)
 }
 
 // 128 to 255, which stand behind, are unwanted.
 fn upper_half() -> bool {
-    let mut store = [0u8; 3072];
-    let mut kept = [0u8; 1536];
-    fill(&mut store, Pattern::Chain);
-    fill(&mut kept, Pattern::Chain);
-    if !mark_from(&mut store, 128, 256) {
-        return false;
-    }
-    collects_in(&mut store, &kept)
+    let mut store: [u8; 3072] = array::from_fn(chain);
+    let kept: [u8; 1536] = array::from_fn(chain);
+    mark_all(&mut store, 128..256) && collects_in(&mut store, &kept)
 }
 
 // 128 to 255, which stand in front, are unwanted.
 fn upper_half_in_front() -> bool {
-    let mut store = [0u8; 3072];
-    let mut kept = [0u8; 1536];
-    fill(&mut store, Pattern::Down(255));
-    fill(&mut kept, Pattern::Down(127));
-    if !mark_from(&mut store, 128, 256) {
-        return false;
-    }
-    collects_in(&mut store, &kept)
+    let mut store: [u8; 3072] = array::from_fn(|index| chain_down(255, index));
+    let kept: [u8; 1536] = array::from_fn(|index| chain_down(127, index));
+    mark_all(&mut store, 128..256) && collects_in(&mut store, &kept)
 }
 
 // 0 to 254 are unwanted, and 255 rests on them all.
 fn last_wanted() -> bool {
-    let mut store = [0u8; 3072];
-    let mut kept = [0u8; 3072];
-    fill(&mut store, Pattern::Chain);
-    fill(&mut kept, Pattern::Unwanted(255));
-    if !mark_from(&mut store, 0, 255) {
-        return false;
-    }
-    collects_in(&mut store, &kept)
+    let mut store: [u8; 3072] = array::from_fn(chain);
+    let kept: [u8; 3072] = array::from_fn(|index| chain_unwanted(255, index));
+    mark_all(&mut store, 0..255) && collects_in(&mut store, &kept)
 }
 
 // All are unwanted.
-fn chain_unwanted() -> bool {
-    let mut store = [0u8; 3072];
-    fill(&mut store, Pattern::Down(255));
-    if !mark_from(&mut store, 0, 256) {
-        return false;
-    }
-    collects_in(&mut store, b"")
+fn chain_none_wanted() -> bool {
+    let mut store: [u8; 3072] = array::from_fn(|index| chain_down(255, index));
+    mark_all(&mut store, 0..256) && collects_in(&mut store, b"")
 }
 
 // Writes a line for each sample of 256 dumps in a chain.
@@ -68,53 +48,36 @@ pub(crate) fn report_chains(rt: &impl Print) -> io::Result<()> {
         upper_half_in_front(),
     )?;
     report(rt, b"a chain of 256, the last alone wanted", last_wanted())?;
-    report(rt, b"a chain of 256, none wanted", chain_unwanted())?;
-    Ok(())
+    report(rt, b"a chain of 256, none wanted", chain_none_wanted())
 }
 
 // 255 deltas of 0.
 fn star_wanted() -> bool {
-    let mut store = [0u8; 1280];
-    fill(&mut store, Pattern::Star);
+    let mut store: [u8; 1280] = array::from_fn(star);
     stays(&mut store)
 }
 
 // The odd ones are unwanted.
 fn star_half() -> bool {
-    let mut store = [0u8; 1280];
-    let mut kept = [0u8; 640];
-    fill(&mut store, Pattern::Star);
-    fill(&mut kept, Pattern::Evens);
-    if !mark_odd(&mut store) {
-        return false;
-    }
-    collects_in(&mut store, &kept)
+    let mut store: [u8; 1280] = array::from_fn(star);
+    let kept: [u8; 640] = array::from_fn(star_of_evens);
+    mark_all(&mut store, (1..256).step_by(2)) && collects_in(&mut store, &kept)
 }
 
 // The odd ones are unwanted, and so is 0, on which all others rest.
 fn star_half_without_base() -> bool {
-    let mut store = [0u8; 1280];
-    let mut kept = [0u8; 640];
-    fill(&mut store, Pattern::Star);
-    fill(&mut kept, Pattern::Evens);
+    let mut store: [u8; 1280] = array::from_fn(star);
+    let mut kept: [u8; 640] = array::from_fn(star_of_evens);
     kept[0] = 0x11;
-    if !mark_odd(&mut store) {
-        return false;
-    }
-    if !mark_from(&mut store, 0, 1) {
-        return false;
-    }
-    collects_in(&mut store, &kept)
+    mark_all(&mut store, (1..256).step_by(2))
+        && mark_all(&mut store, 0..1)
+        && collects_in(&mut store, &kept)
 }
 
 // The deltas are unwanted.
 fn star_base_wanted() -> bool {
-    let mut store = [0u8; 1280];
-    fill(&mut store, Pattern::Star);
-    if !mark_from(&mut store, 1, 256) {
-        return false;
-    }
-    collects_in(&mut store, b"\x01\x00\x00\x00\x00")
+    let mut store: [u8; 1280] = array::from_fn(star);
+    mark_all(&mut store, 1..256) && collects_in(&mut store, b"\x01\x00\x00\x00\x00")
 }
 
 // Writes a line for each sample of 256 dumps in a star.
@@ -130,6 +93,5 @@ pub(crate) fn report_stars(rt: &impl Print) -> io::Result<()> {
         rt,
         b"a star of 256, its base alone wanted",
         star_base_wanted(),
-    )?;
-    Ok(())
+    )
 }

@@ -3,16 +3,16 @@
 #![tactic(auto)]
 
 use std::io;
+use stores::samples::report_all;
 
 mod freeing;
 mod keeping;
 
 // Writes a line for each sample.
 fn main(rt: HostRuntime) -> io::Result<()> {
-    keeping::report_whole(&rt)?;
-    keeping::report_walks(&rt)?;
-    freeing::report_freed(&rt)?;
-    freeing::report_moved(&rt)?;
-    freeing::report_refused(&rt)?;
-    Ok(())
+    report_all(&rt, &keeping::WHOLE)?;
+    report_all(&rt, &keeping::WALKS)?;
+    report_all(&rt, &freeing::FREED)?;
+    report_all(&rt, &freeing::MOVED)?;
+    report_all(&rt, &freeing::REFUSED)
 }

@@ -4,9 +4,8 @@
 ghost use Rattle.std.specs.Prelude.{◌≡◌, [], ◌∷◌, length, replicate};
 ghost use Rattle.refusal.specs.Answer.{gives, refused};
 ghost use Rattle.refusal.specs.Number.{number_of};
-ghost use Rattle.refusal.specs.Meaning.{byte_meaning};
 ghost use Rattle.ump.specs.Packet.{sysex8};
-ghost use Rattle.ump.specs.Check.{checked as Check·checked};
+ghost use Rattle.ump.specs.Check.{checked};
 ghost use Rattle.ump.specs.Setters.{copy_payload};
 ghost use Rattle.ump.specs.Single.{read_packet8, read_packet7};
 ghost use Rattle.packet.specs.Meaning.{kind_meaning};
@@ -14,11 +13,10 @@ ghost use Rattle.listing.specs.Listing.{listing};
 ghost use Rattle.listing.specs.Steps.{handed};
 ghost use Rattle.equality.specs.Tells.{Tells, Begins};
 ghost use Rattle.compare.specs.Facts.{code_of, Says, Reads, Hands};
+ghost use Rattle.refusal.specs.Meaning.{answer_of};
 
-use listing::Listed;
-use message::sysex8::{Checked, Copied};
 use packet::{Earlier, Kind};
-use refusal::{ByteRead, Fault};
+use refusal::Fault;
 use std::io;
 
 // P5's message.
@@ -51,53 +49,54 @@ pub fn report(rt: &impl Print, name: &[u8], right: bool) -> io::Result<()> {
 pub fn is_fault(fault: Fault, number: u8, place: usize) -> bool
     ensures { Tells result ((number_of fault.refusal ≡ number) × (fault.place ≡ place)) }
 {
-    let refusal = fault.refusal;
-    if refusal::number(refusal) != number {
-        return false;
+    refusal::number(fault.refusal) == number && fault.place == place
+}
+
+// The answer refuses with this number and place.
+fn refuses<T>(answer: &Result<T, Fault>, number: u8, place: usize) -> bool
+    ensures { Tells result (answer_of answer.now ≡ refused number place) }
+{
+    match answer {
+        Ok(_) => false,
+        Err(fault) => is_fault(*fault, number, place),
     }
-    fault.place == place
 }
 
 // The first `size` of these bytes are the ones expected.
 fn begins(bytes: &[u8], size: usize, expected: &[u8]) -> bool
     ensures { Tells result (Begins bytes.now size expected.now) }
 {
-    if bytes.len() < size {
-        return false;
+    size <= bytes.len() && &bytes[..size] == expected
+}
+
+// The call answers a size, and as many of these bytes are the ones expected.
+fn hands(answer: Result<usize, Fault>, bytes: &[u8], expected: &[u8]) -> bool
+    ensures { Tells result (Hands (answer_of answer, bytes.now) expected.now) }
+{
+    match answer {
+        Ok(size) => begins(bytes, size, expected),
+        Err(_) => false,
     }
-    check::same(&bytes[..size], expected)
 }
 
 // The message in these words has this group, stream id and payload size.
 pub fn is_message(words: &[u32], group: u8, id: u8, size: usize) -> bool
-    ensures { Tells result (Says (Check·checked sysex8 words.now (length words.now)) group (id ∷ []) size
+    ensures { Tells result (Says (checked sysex8 words.now (length words.now)) group (id ∷ []) size
         (length words.now)) }
 {
-    let checked = message::sysex8::check(words, words.len());
-    let Checked::Message(found) = checked else {
-        return false;
-    };
-    if found.group != group {
-        return false;
+    match message::sysex8::check(words, words.len()) {
+        Ok(found) => {
+            (found.group, found.id, found.size, found.words) == (group, id, size, words.len())
+        }
+        Err(_) => false,
     }
-    if found.id != id {
-        return false;
-    }
-    if found.size != size {
-        return false;
-    }
-    found.words == words.len()
 }
 
 // The message in these words is refused so.
 pub fn is_refused(words: &[u32], number: u8, place: usize) -> bool
-    ensures { Tells result (Check·checked sysex8 words.now (length words.now) ≡ refused number place) }
+    ensures { Tells result (checked sysex8 words.now (length words.now) ≡ refused number place) }
 {
-    let checked = message::sysex8::check(words, words.len());
-    let Checked::Refused(fault) = checked else {
-        return false;
-    };
-    is_fault(fault, number, place)
+    refuses(&message::sysex8::check(words, words.len()), number, place)
 }
 
 // The payload of the message, copied to these bytes, is the one expected.
@@ -106,10 +105,7 @@ fn copies(words: &[u32], expected: &[u8], bytes: &mut [u8]) -> bool
         expected.now) }
 {
     let copied = message::sysex8::payload(words, words.len(), bytes);
-    let Copied::Size(size) = copied else {
-        return false;
-    };
-    begins(bytes, size, expected)
+    hands(copied, bytes, expected)
 }
 
 // The message in these words has this payload.
@@ -130,82 +126,53 @@ fn kind_code(kind: Kind) -> u8
         Kind::Start => 1,
         Kind::Continue => 2,
         Kind::End => 3,
-        Kind::UnexpectedEnd(earlier) => match earlier {
-            Earlier::Valid => 4,
-            Earlier::Invalid => 5,
-        },
+        Kind::UnexpectedEnd(Earlier::Valid) => 4,
+        Kind::UnexpectedEnd(Earlier::Invalid) => 5,
     }
 }
 
 // The SysEx8 packet in these words has this kind, group, stream id and payload size.
+// The kind is a number: a caller may ask for one that no packet has.
 pub fn is_packet8(words: &[u32], kind: u8, group: u8, id: u8, size: usize) -> bool
     ensures { Tells result (Reads (read_packet8 words.now) kind group (id ∷ []) size) }
 {
-    let read = packet::sysex8::read_packet(words);
-    let packet::sysex8::PacketRead::Packet(found) = read else {
-        return false;
-    };
-    let found_kind = found.kind;
-    if kind_code(found_kind) != kind {
-        return false;
+    match packet::sysex8::read_packet(words) {
+        Ok(found) => {
+            (kind_code(found.kind), found.group, found.id, found.size) == (kind, group, id, size)
+        }
+        Err(_) => false,
     }
-    if found.group != group {
-        return false;
-    }
-    if found.id != id {
-        return false;
-    }
-    found.size == size
 }
 
 // The SysEx8 packet in these words is refused so.
 pub fn is_refused8(words: &[u32], number: u8) -> bool
     ensures { Tells result (read_packet8 words.now ≡ refused number 0) }
 {
-    let read = packet::sysex8::read_packet(words);
-    let packet::sysex8::PacketRead::Refused(fault) = read else {
-        return false;
-    };
-    is_fault(fault, number, 0)
+    refuses(&packet::sysex8::read_packet(words), number, 0)
 }
 
 // The SysEx7 packet in these words has this kind, group and payload size.
 pub fn is_packet7(words: &[u32], kind: u8, group: u8, size: usize) -> bool
     ensures { Tells result (Reads (read_packet7 words.now) kind group [] size) }
 {
-    let read = packet::sysex7::read_packet(words);
-    let packet::sysex7::PacketRead::Packet(found) = read else {
-        return false;
-    };
-    let found_kind = found.kind;
-    if kind_code(found_kind) != kind {
-        return false;
+    match packet::sysex7::read_packet(words) {
+        Ok(found) => (kind_code(found.kind), found.group, found.size) == (kind, group, size),
+        Err(_) => false,
     }
-    if found.group != group {
-        return false;
-    }
-    found.size == size
 }
 
 // The SysEx7 packet in these words is refused so.
 pub fn is_refused7(words: &[u32], number: u8) -> bool
     ensures { Tells result (read_packet7 words.now ≡ refused number 0) }
 {
-    let read = packet::sysex7::read_packet(words);
-    let packet::sysex7::PacketRead::Refused(fault) = read else {
-        return false;
-    };
-    is_fault(fault, number, 0)
+    refuses(&packet::sysex7::read_packet(words), number, 0)
 }
 
 // A byte was read, and it is this one.
-pub fn is_byte(read: ByteRead, value: u8) -> bool
-    ensures { Tells result (byte_meaning read ≡ gives value) }
+pub fn is_byte(read: Result<u8, Fault>, value: u8) -> bool
+    ensures { Tells result (answer_of read ≡ gives value) }
 {
-    let ByteRead::Value(found) = read else {
-        return false;
-    };
-    found == value
+    read == Ok(value)
 }
 
 // The listing of these bytes, written to this text, is the one expected.
@@ -213,10 +180,7 @@ fn writes(bytes: &[u8], expected: &[u8], text: &mut [u8]) -> bool
     ensures { Tells result (Hands (handed (listing bytes.now) text.old) expected.now) }
 {
     let listed = listing::list(bytes, text);
-    let Listed::Text(size) = listed else {
-        return false;
-    };
-    begins(text, size, expected)
+    hands(listed, text, expected)
 }
 
 // The listing of these bytes is the one expected.

@@ -1,4 +1,5 @@
 -- Demand 3, and all that an auditor asks, over the promises of the library's calls. Assumes nothing.
+use Rattle.std.specs.Prelude.{Ok}
 use mathlib.Core.Path.{◌≡◌, refl, sym, ap, ◌∙◌}
 use mathlib.Core.Bool.{Bool}
 use mathlib.Core.List.{[], ◌∷◌}
@@ -17,10 +18,7 @@ use Rattle.ump.specs.Orders.{BehindDiffers}
 use Rattle.ump.proofs.Limits.{dense8}
 use Rattle.ump.proofs.NotEmpty.{fits8}
 use Rattle.ump.proofs.Orders as orders
-use Rattle.splice.specs.declared.sysex8.Repacked.TheVariants as repacked
-use Rattle.splice.specs.declared.sysex8.Spliced.TheVariants as spliced
 use Rattle.edit.specs.Meaning.{origin_meaning}
-use Rattle.edit.specs.declared.Moved.TheVariants as moving
 use Rattle.edit.proofs.AnswersFixed.{origin_back}
 use Rattle.edit.proofs.Worker.{struct, Moves, family}
 use Rattle.edit.proofs.Audit as audit
@@ -33,7 +31,7 @@ answers =
       can_splice = λ {words = words} {left} {len} {edit} {bytes} {change} b e. record {
         lifetimes = ([], ([], tt));
         arguments = (lent_mut words, (len, (edit.from, (edit.to, (lent bytes, tt)))));
-        said = spliced.Done (record { length = change.length; growth = change.growth });
+        said = Ok (record { length = change.length; growth = change.growth });
         exit = (lent_mut left, (len, (edit.from, (edit.to, (lent bytes, tt)))));
         promise = sym e;
         given = (refl, refl, refl, refl, refl);
@@ -49,7 +47,7 @@ answers =
         record {
           lifetimes = tt;
           arguments = (struct done, (struct pending, (done_first, tt)));
-          said = moving.Range (record { from = range.from; to = range.to });
+          said = Ok (record { from = range.from; to = range.to });
           exit = (struct done, (struct pending, (done_first, tt)));
           promise = sym e;
           given = refl;
@@ -81,7 +79,7 @@ promised =
       can_repack = λ {words = words} {left} {len} {new} e. record {
         lifetimes = ([], tt);
         arguments = (lent_mut words, (len, tt));
-        said = repacked.Words new;
+        said = Ok new;
         exit = (lent_mut left, (len, tt));
         promise = sym e;
         given = (refl, refl);
@@ -91,7 +89,7 @@ promised =
       can_at_once = λ {words = words} {left} {len} {numbers} {bytes} {change} b e. record {
         lifetimes = ([], ([], ([], tt)));
         arguments = (lent_mut words, (len, (lent numbers, (lent bytes, tt))));
-        said = spliced.Done (record { length = change.length; growth = change.growth });
+        said = Ok (record { length = change.length; growth = change.growth });
         exit = (lent_mut left, (len, (lent numbers, (lent bytes, tt))));
         promise = sym e;
         given = (refl, refl, refl, refl);

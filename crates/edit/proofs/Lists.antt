@@ -2,14 +2,17 @@
 use mathlib.Core.Path.{◌≡◌, refl, sym, ap, ◌∙◌}
 use mathlib.Core.Bool.{Bool, true, false, not, cond, ◌||◌}
 use mathlib.Core.List.{List, ◌∷◌}
+use Rattle.std.specs.Prelude.{Option, None, Some}
 use Prim.Native.Nat.{ℕ, zero, suc, ◌+◌, ◌-◌, ◌/◌, ◌%◌, ◌≤◌, ◌<◌}
+use native.Mathlib.Numerals.{add-one}
 use native.Mathlib.Omega.{arith}
 use lib.Dec.{eqb, ltb}
 use lib.ListN.{length}
 use borrow.Author.Tests.{le-ltb, lt-ltb, ltb-false, eq-eqb, ne_eqb, eqb-true, not-false}
+use Rattle.std.specs.List.{list_any, range_with_len}
 use Rattle.refusal.specs.Answer.{refused, pass, ◌▷◌, guard}
 use Rattle.refusal.proofs.Laws.{guard_passed, pass_both}
-use Rattle.ump.specs.Edits.{Edit, bad_edit, lengths, some_bad, some_overlap, per_edit, edit_in, edits_of, bad_list}
+use Rattle.ump.specs.Edits.{Edit, bad_edit, lengths, some_bad, some_overlap, per_edit, edit_in, edits_from, edits_of, bad_list}
 use Rattle.ump.specs.Limits.{most_bytes}
 use Rattle.ump.proofs.First.{Side, under, over, side}
 use Rattle.ump.proofs.Checks.{or_left, or_right}
@@ -29,17 +32,20 @@ bad_none n e es h =
 pub overlap_none : (end : ℕ) (e : Edit) (es : List Edit) → some_overlap end (e ∷ es) ≡ false → (end ≤ e.from) × (some_overlap e.to es ≡ false)
 overlap_none end e es h = (ltb-false e.from end (or_left _ _ h), or_right (ltb e.from end) _ h)
 
+-- a bad edit, index by index
+abbrev pub is_past : ℕ → List ℕ → ℕ → Bool
+is_past n numbers i = bad_edit (edit_in numbers i) || ltb n (edit_in numbers i).to
+
+pub some_listed : (n : ℕ) (numbers : List ℕ) (i count : ℕ) → list_any (is_past n numbers) (range_with_len i count) ≡ some_bad n (edits_from numbers i count)
+unfolding edits_from
+some_listed n numbers i zero = refl
+some_listed n numbers i (suc count) = rw (add-one i, some_listed n numbers (suc i) count)
+
 -- ---- edit i, and those behind it
 
 module _ (numbers : List ℕ) (i : ℕ) (h : i < length numbers / per_edit) {e : Edit} (q : e ≡ edit_in numbers i) where
   pub rest_here : rest numbers i ≡ e ∷ rest numbers (i + 1)
   rest_here = rw q (rest_step numbers i h)
-
-  pub bad_here : (n : ℕ) → bad_edit e ≡ true → true ≡ some_bad n (rest numbers i)
-  bad_here n b = rw (rest_here, b)
-
-  pub bad_past : (n : ℕ) → bad_edit e ≡ false → n < e.to → true ≡ some_bad n (rest numbers i)
-  bad_past n b k = rw (rest_here, b, lt-ltb n e.to k)
 
   pub bad_on : (n : ℕ) → bad_edit e ≡ false → e.to ≤ n → some_bad n (rest numbers i) ≡ some_bad n (rest numbers (i + 1))
   bad_on n b k = rw (rest_here, b, le-ltb n e.to k)
@@ -100,9 +106,6 @@ module _ {numbers : List ℕ} {n end i : ℕ} (r : Ranges numbers n end i) {e : 
   pub range_after : end ≤ e.from
   range_after = overlap.0
 
-  pub range_inside : e.from ≤ n
-  range_inside = omega (arith, bad.0.forward, bad.1)
-
   pub ranges_on : Ranges numbers n e.to (i + 1)
   ranges_on = record { within = omega arith; inside = bad.1; good = bad.2; apart = overlap.1 }
 
@@ -130,7 +133,8 @@ turn_all numbers n bytes =
     }
 
 -- a list that is refused for one of three causes, whatever its numbers come to
-none_found : (ragged bad differ overlap : Bool) (found : ℕ) → ((bad || differ) || overlap) ≡ true → 0 ≡ cond ((ragged || (bad || differ)) || overlap) 0 found
+none_found : (ragged bad differ overlap : Bool) (found : Option ℕ) → ((bad || differ) || overlap) ≡ true
+    → None ≡ cond ((ragged || (bad || differ)) || overlap) None found
 none_found true bad differ overlap found e = refl
 none_found false bad differ overlap found e = rw e
 
@@ -144,12 +148,12 @@ module _ {numbers : List ℕ} {n bytes left end cut i : ℕ} (t : Turn numbers n
   abbrev overlap_one : Bool
   overlap_one = some_overlap 0 (edits_of numbers)
 
-  refuses : ((bad_one || differ) || overlap_one) ≡ true → 0 ≡ cut_found n bytes numbers
+  refuses : ((bad_one || differ) || overlap_one) ≡ true → None ≡ cut_found n bytes numbers
   unfolding cut_found
-  refuses e = none_found (not (eqb (length numbers % per_edit) 0)) bad_one differ overlap_one (suc (widths (edits_of numbers))) e
+  refuses e = none_found (not (eqb (length numbers % per_edit) 0)) bad_one differ overlap_one (Some (widths (edits_of numbers))) e
 
   module _ {e : Edit} (h : i < length numbers / per_edit) (q : e ≡ edit_in numbers i) where
-    pub turn_out : true ≡ out_of_turn n left end e → 0 ≡ cut_found n bytes numbers
+    pub turn_out : true ≡ out_of_turn n left end e → None ≡ cut_found n bytes numbers
     turn_out w = refuses (go (bad_edit e || ltb n e.to) refl (side left e.length) (side e.from end) (sym w))
       where
         go : (b : Bool) → (bad_edit e || ltb n e.to) ≡ b → Side left e.length → Side e.from end
@@ -188,12 +192,12 @@ module _ {numbers : List ℕ} {n bytes left end cut i : ℕ} (t : Turn numbers n
           }
 
   module _ (h : length numbers / per_edit ≤ i) where
-    pub turn_over : (left ≡ 0 → ⊥) → 0 ≡ cut_found n bytes numbers
+    pub turn_over : (left ≡ 0 → ⊥) → None ≡ cut_found n bytes numbers
     turn_over z =
         let d : differ ≡ true = sym (left_end t.lent h) ∙ ap not (ne_eqb left 0 z) in
         refuses (or_left_true (bad_one || differ) overlap_one (or_right_true bad_one differ d))
 
-    pub turn_done : length numbers % per_edit ≡ 0 → left ≡ 0 → cut + 1 ≡ cut_found n bytes numbers
+    pub turn_done : length numbers % per_edit ≡ 0 → left ≡ 0 → Some cut ≡ cut_found n bytes numbers
     unfolding widths cut_found
     turn_done a z =
         let none = rest_end numbers i h in
@@ -201,9 +205,9 @@ module _ {numbers : List ℕ} {n bytes left end cut i : ℕ} (t : Turn numbers n
         let o : overlap_one ≡ false = t.apart ∙ ap (some_overlap end) none in
         let d : differ ≡ false = sym (left_end t.lent h) ∙ ap not (eq-eqb left 0 z) in
         let w : widths (edits_of numbers) ≡ cut = omega (arith, t.out, ap widths none) in
-        rw (eq-eqb (length numbers % per_edit) 0 a, g, d, o, w) (omega arith)
+        rw (eq-eqb (length numbers % per_edit) 0 a, g, d, o, w)
 
-pub ragged_found : (n bytes : ℕ) (numbers : List ℕ) → (length numbers % per_edit ≡ 0 → ⊥) → 0 ≡ cut_found n bytes numbers
+pub ragged_found : (n bytes : ℕ) (numbers : List ℕ) → (length numbers % per_edit ≡ 0 → ⊥) → None ≡ cut_found n bytes numbers
 unfolding cut_found
 ragged_found n bytes numbers a = rw (ne_eqb (length numbers % per_edit) 0 a)
 
@@ -214,27 +218,17 @@ same_bytes bytes sum e = eqb-true bytes sum (not-false (eqb bytes sum) e)
 
 -- why a list is refused
 module _ (n bytes : ℕ) (numbers : List ℕ) where
-  pub list_ragged : (length numbers % per_edit ≡ 0 → ⊥) → refused 13 0 ≡ list_check n bytes numbers
+  pub list_bad : bad_list n bytes numbers ≡ true → refused 13 0 ≡ list_check n bytes numbers
   unfolding list_check
-  list_ragged a = rw (ne_eqb (length numbers % per_edit) 0 a)
+  list_bad b = rw b
 
-  module _ (a : length numbers % per_edit ≡ 0) where
-    pub list_bad : some_bad n (edits_of numbers) ≡ true → refused 13 0 ≡ list_check n bytes numbers
-    unfolding list_check
-    list_bad b = rw (eq-eqb (length numbers % per_edit) 0 a, b)
-
-    module _ (b : some_bad n (edits_of numbers) ≡ false) where
-      pub list_uneven : not (eqb bytes (lengths (edits_of numbers))) ≡ true → refused 13 0 ≡ list_check n bytes numbers
-      unfolding list_check
-      list_uneven c = rw (eq-eqb (length numbers % per_edit) 0 a, b, c)
-
-      pub list_overlap : not (eqb bytes (lengths (edits_of numbers))) ≡ false → (list_check n bytes numbers ≡ pass → ⊥) → refused 20 0 ≡ list_check n bytes numbers
-      unfolding list_check
-      list_overlap c none = go (some_overlap 0 (edits_of numbers)) refl
-        where
-          go : (d : Bool) → some_overlap 0 (edits_of numbers) ≡ d → refused 20 0 ≡ guard (bad_list n bytes numbers) 13 0 ▷ guard (some_overlap 0 (edits_of numbers)) 20 0
-          go true d = rw (eq-eqb (length numbers % per_edit) 0 a, b, c, d)
-          go false d = absurd (none (rw (eq-eqb (length numbers % per_edit) 0 a, b, c, d)))
+  pub list_overlap : bad_list n bytes numbers ≡ false → (list_check n bytes numbers ≡ pass → ⊥) → refused 20 0 ≡ list_check n bytes numbers
+  unfolding list_check
+  list_overlap b none = go (some_overlap 0 (edits_of numbers)) refl
+    where
+      go : (d : Bool) → some_overlap 0 (edits_of numbers) ≡ d → refused 20 0 ≡ guard (bad_list n bytes numbers) 13 0 ▷ guard (some_overlap 0 (edits_of numbers)) 20 0
+      go true d = rw (b, d)
+      go false d = absurd (none (rw (b, d)))
 
 pub listed_fault : (n bytes : ℕ) (numbers : List ℕ) {number place : ℕ} → refused number place ≡ list_check n bytes numbers
     → refused number place ≡ listed n bytes numbers
@@ -263,20 +257,17 @@ list_passes n bytes numbers e =
 
 -- ---- what the walk found
 
-module _ (n bytes : ℕ) (numbers : List ℕ) {found : ℕ} (e : found ≡ cut_found n bytes numbers) where
-  pub cut_none : found ≡ 0 → list_check n bytes numbers ≡ pass → ⊥
+module _ (n bytes : ℕ) (numbers : List ℕ) where
+  pub cut_none : None ≡ cut_found n bytes numbers → list_check n bytes numbers ≡ pass → ⊥
   unfolding cut_found
-  cut_none z p =
-      let l = list_passes n bytes numbers p in
-      let f : found ≡ suc (widths (edits_of numbers)) = e ∙ rw (l.fine, l.apart) in
-      omega arith
+  cut_none e p = let l = list_passes n bytes numbers p in let f = rw (l.fine, l.apart) at e in cc
 
-  pub cut_some : (found ≡ 0 → ⊥) → (list_check n bytes numbers ≡ pass) × (found ≡ suc (widths (edits_of numbers)))
+  pub cut_some : {cut : ℕ} → Some cut ≡ cut_found n bytes numbers → (list_check n bytes numbers ≡ pass) × (cut ≡ widths (edits_of numbers))
   unfolding list_check cut_found
-  cut_some z = go (bad_list n bytes numbers) refl (some_overlap 0 (edits_of numbers)) refl
+  cut_some {cut} e = go (bad_list n bytes numbers) refl (some_overlap 0 (edits_of numbers)) refl
     where
       go : (a : Bool) → bad_list n bytes numbers ≡ a → (b : Bool) → some_overlap 0 (edits_of numbers) ≡ b
-          → ((guard (bad_list n bytes numbers) 13 0 ▷ guard (some_overlap 0 (edits_of numbers)) 20 0) ≡ pass) × (found ≡ suc (widths (edits_of numbers)))
-      go true a b o = absurd (z (e ∙ rw a))
-      go false a true o = absurd (z (e ∙ rw (a, o)))
-      go false a false o = (rw (a, o), e ∙ rw (a, o))
+          → ((guard (bad_list n bytes numbers) 13 0 ▷ guard (some_overlap 0 (edits_of numbers)) 20 0) ≡ pass) × (cut ≡ widths (edits_of numbers))
+      go true a b o = let f = rw a at e in cc
+      go false a true o = let f = rw (a, o) at e in cc
+      go false a false o = (rw (a, o), let f = rw (a, o) at e in cc)

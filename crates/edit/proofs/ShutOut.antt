@@ -1,4 +1,5 @@
 -- Wrong answers that the promises shut out, each on a concrete input. Assumes nothing.
+use Rattle.std.specs.Prelude.{Result, Ok, Err}
 use mathlib.Core.Path.{◌≡◌, ap}
 use mathlib.Core.Bool.{Bool, true, false, not, cond}
 use mathlib.Core.List.{List, [], ◌∷◌, ◌++◌}
@@ -26,7 +27,6 @@ use Rattle.ump.specs.Edits as ump
 use Rattle.ump.specs.Runs.{run_from}
 use Rattle.ump.specs.Origin.{Origin, Source, dump_byte, edit_byte, header_octet, carried, filler, zeroed, untouched, origin_of, origin_in, origin, is_header}
 use Rattle.ump.specs.Samples.{message5}
-use Rattle.splice.specs.declared.sysex8.Spliced as answer
 use Rattle.splice.specs.declared.sysex8.Change.{Change}
 use Rattle.splice.proofs.ShutOut.{Refuses}
 use Rattle.edit.specs.Growth.{growth_of}
@@ -35,8 +35,6 @@ use Rattle.edit.specs.Placed.{Place, in_dump, in_bytes, placed}
 use Rattle.edit.specs.Meaning.{origin_meaning, placed_meaning}
 use Rattle.edit.specs.declared.Edit.{Edit}
 use Rattle.edit.specs.declared.Range.{Range}
-use Rattle.edit.specs.declared.Grown.TheVariants as grown
-use Rattle.edit.specs.declared.Moved.TheVariants as moved
 use Rattle.edit.specs.declared.origins.OctetOrigin.{OctetOrigin}
 use Rattle.edit.specs.declared.origins.OctetOrigin.TheVariants as comes
 use Rattle.edit.specs.declared.placing.Placed.{Placed}
@@ -84,23 +82,23 @@ shrinking = edit 2 3 0
 -- ones refused (touching, before); overlap told by the wrong ends (ends, wrong-ends); Overlap before Range (order), Range for one
 -- of the two alone (done, pending); a moved range above 53,248 refused (far).
 record ShutOut : Type 0 where
-  growth_unsigned : Shuts growth.Post (shrinking, tt) (grown.By (pos 0))
-  growth_magnitude : Shuts growth.Post (shrinking, tt) (grown.By (pos 1))
-  growth_refused : Shuts growth.Post (shrinking, tt) (grown.Refused (fault refusal.Range))
-  growth_reversed : Shuts growth.Post (edit 3 2 0, tt) (grown.By (pos 1))
-  growth_past : Shuts growth.Post (edit 0 0 53249, tt) (grown.By (pos 53249))
-  move_unsigned : Shuts move.Post (edit 0 4 1, (edit 4 5 0, (true, tt))) (moved.Range (range 4 5))
-  move_higher : Shuts move.Post (shrinking, (growing, (false, tt))) (moved.Range (range 0 0))
-  move_grown_higher : Shuts move.Post (edit 2 3 5, (growing, (false, tt))) (moved.Range (range 4 5))
-  move_unmoved : Shuts move.Post (growing, (shrinking, (true, tt))) (moved.Range (range 2 3))
-  move_touching : Shuts move.Post (growing, (edit 1 2 0, (true, tt))) (moved.Refused (fault refusal.Overlap))
-  move_before : Shuts move.Post (edit 1 2 0, (growing, (false, tt))) (moved.Refused (fault refusal.Overlap))
-  move_ends : Shuts move.Post (edit 0 4 4, (edit 3 5 0, (true, tt))) (moved.Range (range 3 5))
-  move_wrong_ends : Shuts move.Post (edit 3 5 2, (edit 0 4 0, (false, tt))) (moved.Range (range 0 4))
-  move_order : Shuts move.Post (edit 0 4 53249, (edit 3 5 0, (true, tt))) (moved.Refused (fault refusal.Overlap))
-  move_done : Shuts move.Post (edit 2 1 0, (edit 3 5 0, (true, tt))) (moved.Range (range 3 5))
-  move_pending : Shuts move.Post (growing, (edit 5 3 0, (true, tt))) (moved.Range (range 6 4))
-  move_far : Shuts move.Post (edit 0 0 53248, (edit 53248 53248 0, (true, tt))) (moved.Refused (fault refusal.Range))
+  growth_unsigned : Shuts growth.Post (shrinking, tt) (Ok (pos 0))
+  growth_magnitude : Shuts growth.Post (shrinking, tt) (Ok (pos 1))
+  growth_refused : Shuts growth.Post (shrinking, tt) (Err (fault refusal.Range))
+  growth_reversed : Shuts growth.Post (edit 3 2 0, tt) (Ok (pos 1))
+  growth_past : Shuts growth.Post (edit 0 0 53249, tt) (Ok (pos 53249))
+  move_unsigned : Shuts move.Post (edit 0 4 1, (edit 4 5 0, (true, tt))) (Ok (range 4 5))
+  move_higher : Shuts move.Post (shrinking, (growing, (false, tt))) (Ok (range 0 0))
+  move_grown_higher : Shuts move.Post (edit 2 3 5, (growing, (false, tt))) (Ok (range 4 5))
+  move_unmoved : Shuts move.Post (growing, (shrinking, (true, tt))) (Ok (range 2 3))
+  move_touching : Shuts move.Post (growing, (edit 1 2 0, (true, tt))) (Err (fault refusal.Overlap))
+  move_before : Shuts move.Post (edit 1 2 0, (growing, (false, tt))) (Err (fault refusal.Overlap))
+  move_ends : Shuts move.Post (edit 0 4 4, (edit 3 5 0, (true, tt))) (Ok (range 3 5))
+  move_wrong_ends : Shuts move.Post (edit 3 5 2, (edit 0 4 0, (false, tt))) (Ok (range 0 4))
+  move_order : Shuts move.Post (edit 0 4 53249, (edit 3 5 0, (true, tt))) (Err (fault refusal.Overlap))
+  move_done : Shuts move.Post (edit 2 1 0, (edit 3 5 0, (true, tt))) (Ok (range 3 5))
+  move_pending : Shuts move.Post (growing, (edit 5 3 0, (true, tt))) (Ok (range 6 4))
+  move_far : Shuts move.Post (edit 0 0 53248, (edit 53248 53248 0, (true, tt))) (Err (fault refusal.Range))
 
 shut_out : ShutOut
 unfolding growth_of ump.move_edit
@@ -138,12 +136,12 @@ abbrev AllShut : List ℕ → ℕ → List ℕ → List ℕ → Wrong → Type 0
 AllShut words len numbers bytes wrong =
     tight.ShutOut 3 all_kinds.ps all_kinds.r all.Post (λ κs a x s. AllCalled words len numbers bytes κs a × wrong κs x s)
 
-record Accepts (x : answer.Spliced) : Type 0 where
+record Accepts (x : (Result Change Fault)) : Type 0 where
   change : Change
-  is : x ≡ answer.TheVariants.Done change
+  is : x ≡ Ok change
 
 abbrev refuses : Wrong
-refuses κs x s = Refuses answer.TheVariants.Refused x
+refuses κs x s = Refuses Err x
 
 abbrev accepts : Wrong
 accepts κs x s = Accepts x
@@ -152,7 +150,7 @@ abbrev leaves : List ℕ → Wrong
 leaves words κs x s = s.0.now ≡ words
 
 abbrev answers : ℕ → ℤ → Wrong
-answers length growth κs x s = x ≡ answer.TheVariants.Done (record { length = length; growth = growth })
+answers length growth κs x s = x ≡ Ok (record { length = length; growth = growth })
 
 abbrev word : ℕ → Answer Spliced × List ℕ → ℕ
 word k o = get_or o.1 k 0
@@ -216,7 +214,7 @@ all_late κs a x s w p = differ (word 0) tt (rw (w.0.0, w.0.1, w.0.2, w.0.3, w.1
 -- ---- where an octet comes from
 
 -- no such answer to a question for octet q, of P8's edits of P5's message in these words
-abbrev AskedShut : List ℕ → ℕ → (OctetOrigin → Type 0) → Type 0
+abbrev AskedShut : List ℕ → ℕ → (Result OctetOrigin Fault → Type 0) → Type 0
 AskedShut words q wrong =
     tight.ShutOut 3 origin-kinds.ps origin-kinds.r asked.Post
     (λ κs a x s. (a.0.now ≡ words) × (a.1.0 ≡ 12) × (a.1.1.0.now ≡ numbers8) × (a.1.1.1.0.now ≡ bytes8) × (a.1.1.1.1.0 ≡ q) × wrong x)
@@ -229,19 +227,19 @@ kind filler = 3
 kind zeroed = 4
 kind untouched = 5
 
-abbrev from_edit : ℕ → ℕ → OctetOrigin
-from_edit edit byte = comes.Edit (record { edit = edit; byte = byte })
+abbrev from_edit : ℕ → ℕ → Result OctetOrigin Fault
+from_edit edit byte = Ok (comes.Edit (record { edit = edit; byte = byte }))
 
 -- an answer that refuses, one that does not, and one by which the octet is carried
-record NotGiven (x : OctetOrigin) : Type 0 where
+record NotGiven (x : Result OctetOrigin Fault) : Type 0 where
   fault : Fault
-  is : x ≡ comes.Refused fault
+  is : x ≡ Err fault
 
-record Given (x : OctetOrigin) : Type 0 where
+record Given (x : Result OctetOrigin Fault) : Type 0 where
   from : Origin
   is : origin_meaning x ≡ gives from
 
-record Carried (x : OctetOrigin) : Type 0 where
+record Carried (x : Result OctetOrigin Fault) : Type 0 where
   source : Source
   is : origin_meaning x ≡ gives (carried source)
 
@@ -254,13 +252,13 @@ more = message5 ++ replicate 4 9
 -- (filler); an octet behind the new message, where the old one stood, untouched (behind), and one behind both zeroed (beyond); one
 -- that is not lent answered (past); a question refused that has an answer (refused).
 record OriginShutOut : Type 0 where
-  origin_replaced : AskedShut message5 3 (λ x. x ≡ comes.Dump 0)
+  origin_replaced : AskedShut message5 3 (λ x. x ≡ Ok (comes.Dump 0))
   origin_first : AskedShut message5 4 (λ x. x ≡ from_edit 0 0)
-  origin_unmoved : AskedShut message5 5 (λ x. x ≡ comes.Dump 2)
+  origin_unmoved : AskedShut message5 5 (λ x. x ≡ Ok (comes.Dump 2))
   origin_id : AskedShut message5 2 Carried
-  origin_filler : AskedShut message5 6 (λ x. x ≡ comes.Zeroed)
-  origin_behind : AskedShut message5 16 (λ x. x ≡ comes.Untouched)
-  origin_beyond : AskedShut more 48 (λ x. x ≡ comes.Zeroed)
+  origin_filler : AskedShut message5 6 (λ x. x ≡ Ok (comes.Zeroed))
+  origin_behind : AskedShut message5 16 (λ x. x ≡ Ok (comes.Untouched))
+  origin_beyond : AskedShut more 48 (λ x. x ≡ Ok (comes.Zeroed))
   origin_past : AskedShut message5 48 Given
   origin_refused : AskedShut message5 5 NotGiven
 
@@ -305,12 +303,12 @@ place_number (in_dump at) = 2 * at
 place_number (in_bytes at) = 2 * at + 1
 
 -- the answer to these edits, with so many replacement bytes, for byte i
-abbrev PlaceShut : List ℕ → ℕ → ℕ → Placed → Type 0
+abbrev PlaceShut : List ℕ → ℕ → ℕ → Result Placed Fault → Type 0
 PlaceShut numbers bytes i wrong =
     tight.ShutOut 1 place-kinds.ps place-kinds.r place.Post
     (λ κs a x s. (a.0.now ≡ numbers) × (a.1.0 ≡ 5) × (a.1.1.0 ≡ bytes) × (a.1.1.1.0 ≡ i) × (x ≡ wrong))
 
-place_wrong : (numbers : List ℕ) (bytes i : ℕ) (wrong : Placed)
+place_wrong : (numbers : List ℕ) (bytes i : ℕ) (wrong : Result Placed Fault)
     → T (not (eqb (told place_number (placed_meaning wrong)) (told place_number (placed 5 bytes numbers i)))) → PlaceShut numbers bytes i wrong
 place_wrong numbers bytes i wrong t κs a x s w p = differ (told place_number) t (rw (w.0, w.1, w.2, w.3, w.4) at p)
 
@@ -321,14 +319,14 @@ three = 0 ∷ 1 ∷ 2 ∷ 2 ∷ 2 ∷ 0 ∷ 2 ∷ 4 ∷ 1 ∷ []
 -- (start); a byte past the result (past); Overlap before Range (order), Range for the position before Overlap (position); edits that touch
 -- refused (touching); refused without edits (none)
 record PlaceShuts : Type 0 where
-  unedited : PlaceShut three 3 2 (place_of.Dump 2)
-  own : PlaceShut three 3 3 (place_of.Bytes 0)
-  start : PlaceShut three 3 4 (place_of.Dump 2)
-  past : PlaceShut three 3 5 (place_of.Dump 5)
-  order : PlaceShut (2 ∷ 4 ∷ 0 ∷ 0 ∷ 6 ∷ 0 ∷ []) 0 0 (place_of.Refused (fault refusal.Overlap))
-  position : PlaceShut (2 ∷ 4 ∷ 0 ∷ 0 ∷ 1 ∷ 0 ∷ []) 0 9 (place_of.Refused (fault refusal.Range))
-  touching : PlaceShut (0 ∷ 1 ∷ 0 ∷ 1 ∷ 3 ∷ 0 ∷ []) 0 0 (place_of.Refused (fault refusal.Overlap))
-  none : PlaceShut [] 0 4 (place_of.Refused (fault refusal.Range))
+  unedited : PlaceShut three 3 2 (Ok (place_of.Dump 2))
+  own : PlaceShut three 3 3 (Ok (place_of.Bytes 0))
+  start : PlaceShut three 3 4 (Ok (place_of.Dump 2))
+  past : PlaceShut three 3 5 (Ok (place_of.Dump 5))
+  order : PlaceShut (2 ∷ 4 ∷ 0 ∷ 0 ∷ 6 ∷ 0 ∷ []) 0 0 (Err (fault refusal.Overlap))
+  position : PlaceShut (2 ∷ 4 ∷ 0 ∷ 0 ∷ 1 ∷ 0 ∷ []) 0 9 (Err (fault refusal.Range))
+  touching : PlaceShut (0 ∷ 1 ∷ 0 ∷ 1 ∷ 3 ∷ 0 ∷ []) 0 0 (Err (fault refusal.Overlap))
+  none : PlaceShut [] 0 4 (Err (fault refusal.Range))
 
 place_shuts : PlaceShuts
 unfolding placed list_check run_from ump.edits_from

@@ -4,7 +4,7 @@ use Rattle.refusal.specs.Tight.{FixesResult, FixesOutcome}
 use Rattle.refusal.proofs.Tight.{both_fixed}
 use Rattle.splice.specs.Meaning.{spliced_meaning}
 use Rattle.splice.proofs.Unique.{spliced_once}
-use Rattle.edit.proofs.AnswersFixed.{grown_once, moved_once, origin_once, placed_once}
+use Rattle.edit.proofs.AnswersFixed.{moved_once, origin_once, placed_once}
 use Rattle.edit.proofs.growth.Kinds as growth-kinds
 use Rattle.edit.proofs.growth.Reads as growth
 use Rattle.edit.proofs.move_edit.Kinds as move-kinds
@@ -17,9 +17,10 @@ use Rattle.edit.proofs.is_bad.Kinds as bad-kinds
 use Rattle.edit.proofs.is_bad.Reads as bad
 use Rattle.edit.proofs.placing.place.Kinds as place-kinds
 use Rattle.edit.proofs.placing.place.Reads as place
+use Rattle.refusal.proofs.Laws.{answer_once}
 
 growth_unique : FixesResult 0 growth-kinds.ps growth-kinds.r growth.Post
-growth_unique κs a x y s t p q = grown_once x y (p ∙ sym q)
+growth_unique κs a x y s t p q = answer_once x y (p ∙ sym q)
 
 move_unique : FixesResult 0 move-kinds.ps move-kinds.r move.Post
 move_unique κs a x y s t p q = moved_once x y (p ∙ sym q)

@@ -4,6 +4,7 @@
 use mathlib.Core.Path.{◌≡◌, refl, sym, ap, ap₂, ◌∙◌}
 use mathlib.Core.Bool.{false}
 use mathlib.Core.List.{List, [], ◌∷◌}
+use Rattle.std.specs.Prelude.{None, Some}
 use Prim.Native.Nat.{ℕ, zero, suc, ◌+◌, ◌-◌, ◌*◌, ◌/◌, ◌%◌, ◌≤◌, ◌<◌}
 use native.Mathlib.Numerals.{add-one}
 use native.Mathlib.Omega.{arith}
@@ -22,7 +23,7 @@ use Rattle.ump.proofs.Runs.{run_tail, run_past, run_gap, run_within, run_later}
 use Rattle.merge.proofs.Turning.{rest, rest_all, rest_end, rest_step}
 use Rattle.edit.specs.Listed.{list_check}
 use Rattle.edit.specs.Placed.{in_dump, in_bytes, place_of, placed, BeginsAt}
-use Rattle.edit.specs.declared.placing.Replacement.{Replacement}
+use Rattle.edit.specs.declared.origins.EditByte.{EditByte}
 use Rattle.edit.specs.declared.placing.Standing.TheVariants as standing
 use Rattle.edit.proofs.Lists.{rest_here, lengths_on, Ranges, ranges_all, ranges_on}
 
@@ -63,13 +64,13 @@ module _ {numbers : List ℕ} {n i end start left index : ℕ} (w : Walk numbers
     pub walk-lent : start + e.length ≤ lengths (edits_of numbers)
     walk-lent = omega (arith, w.lent, lengths_on numbers index h q)
 
-    pub walk-gap : left < e.from - end → BeginsAt n (edits_of numbers) i (standing.Dump (end + left))
+    pub walk-gap : left < e.from - end → BeginsAt n (edits_of numbers) i (Some (standing.Dump (end + left)))
     walk-gap l = ap beginning (step ∙ run_gap n end index left e (rest numbers (index + 1)) l)
 
     module _ (g : e.from - end ≤ left) where
       pub walk_here : left - (e.from - end) < e.length
           → BeginsAt n (edits_of numbers) i
-          (standing.Edit (record { edit = index; byte = left - (e.from - end); at = start + (left - (e.from - end)) }))
+          (Some (standing.Edit (record { edit = index; byte = left - (e.from - end) }) (start + (left - (e.from - end)))))
       walk_here l = (
         ap beginning (step ∙ run_within n end index left e (rest numbers (index + 1)) g l),
         omega (arith, w.lent, lengths_split (edits_of numbers) index, ap lengths (behind numbers index w.ranges.within)),
@@ -90,10 +91,10 @@ module _ {numbers : List ℕ} {n i end start left index : ℕ} (w : Walk numbers
     last : run_at n (edits_of numbers) i ≡ run_from n end index [] left
     last = w.same ∙ ap (λ (es : List Edit). run_from n end index es left) (rest_end numbers index h)
 
-    pub walk_tail : left < n - end → BeginsAt n (edits_of numbers) i (standing.Dump (end + left))
+    pub walk_tail : left < n - end → BeginsAt n (edits_of numbers) i (Some (standing.Dump (end + left)))
     walk_tail l = ap beginning (last ∙ run_tail n end index left l)
 
-    pub walk_past : n - end ≤ left → BeginsAt n (edits_of numbers) i standing.Past
+    pub walk_past : n - end ≤ left → BeginsAt n (edits_of numbers) i None
     walk_past l = ap beginning (last ∙ run_past n end index left l)
 
 -- ---- where a byte stands, as a call
@@ -126,23 +127,23 @@ module _ (n bytes : ℕ) (numbers : List ℕ) (i : ℕ) (passed : list_check n b
   unfolding placed
   placed_is = rw passed
 
-  pub placed_dump : {at : ℕ} → BeginsAt n (edits_of numbers) i (standing.Dump at) → gives (in_dump at) ≡ placed n bytes numbers i
+  pub placed_dump : {at : ℕ} → BeginsAt n (edits_of numbers) i (Some (standing.Dump at)) → gives (in_dump at) ≡ placed n bytes numbers i
   placed_dump s = place_dump (edits_of numbers) (run_at n (edits_of numbers) i) s ∙ placed_is
 
-  pub placed_edit : {place : Replacement} → BeginsAt n (edits_of numbers) i (standing.Edit place) → gives (in_bytes place.at) ≡ placed n bytes numbers i
+  pub placed_edit : {place : EditByte} {at : ℕ} → BeginsAt n (edits_of numbers) i (Some (standing.Edit place at)) → gives (in_bytes at) ≡ placed n bytes numbers i
   placed_edit s = place_edit (edits_of numbers) (run_at n (edits_of numbers) i) s.0 s.1 ∙ placed_is
 
-  pub placed_past : BeginsAt n (edits_of numbers) i standing.Past → refused 13 0 ≡ placed n bytes numbers i
+  pub placed_past : BeginsAt n (edits_of numbers) i None → refused 13 0 ≡ placed n bytes numbers i
   placed_past s = place_past (edits_of numbers) (run_at n (edits_of numbers) i) s ∙ placed_is
 
 -- ---- an octet of the message
 
 module _ (n : ℕ) (edits : List Edit) (q : ℕ) where
-  pub octet_header : q % 16 < 3 → gives (header_octet (q / 16) (q % 16)) ≡ gives (origin_of sysex8 n edits q)
+  pub octet_header : q % 16 < 3 → header_octet (q / 16) (q % 16) ≡ origin_of sysex8 n edits q
   unfolding origin_of
   octet_header h = rw (lt-ltb (q % 16) 3 h)
 
-  pub octet_byte : 3 ≤ q % 16 → gives (beginning (run_at n edits (13 * (q / 16) + (q % 16 - 3)))) ≡ gives (origin_of sysex8 n edits q)
+  pub octet_byte : 3 ≤ q % 16 → beginning (run_at n edits (13 * (q / 16) + (q % 16 - 3))) ≡ origin_of sysex8 n edits q
   unfolding origin_of
   octet_byte h = rw (le-ltb (q % 16) 3 h)
 

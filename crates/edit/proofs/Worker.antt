@@ -12,7 +12,7 @@ use Rattle.ump.specs.Edits.{Edit}
 use Rattle.ump.specs.Origin.{Origin}
 use Rattle.ump.specs.Worker.{with_range}
 use Rattle.ump.specs.Demand.{Family}
-use Rattle.splice.specs.Meaning.{repacked_meaning, spliced_meaning}
+use Rattle.splice.specs.Meaning.{spliced_meaning}
 use Rattle.splice.proofs.sysex8.repack.Kinds as repack-kinds
 use Rattle.splice.proofs.sysex8.repack.Reads as repack
 use Rattle.splice.proofs.sysex8.splice.Kinds as splice-kinds
@@ -25,6 +25,7 @@ use Rattle.edit.proofs.all.splice_all.Kinds as all_kinds
 use Rattle.edit.proofs.all.splice_all.Reads as all
 use Rattle.edit.proofs.origins.origin.Kinds as origin-kinds
 use Rattle.edit.proofs.origins.origin.Reads as origin
+use Rattle.refusal.specs.Meaning.{answer_of}
 
 -- ---- what the calls are given, the library's and the exported ones alike
 
@@ -64,7 +65,7 @@ Moves done pending done_first answer =
 abbrev pub Repacks : List ℕ → ℕ → Answer ℕ → List ℕ → Type 0
 Repacks words len answer left =
     Called 1 repack-kinds.ps repack-kinds.r repack.Post (repack_given words len)
-    (λ κs said. repacked_meaning said) (λ κs exit. exit.0.now ≡ left) answer
+    (λ κs said. answer_of said) (λ κs exit. exit.0.now ≡ left) answer
 
 -- `splice_all` is called on these words, this length, these numbers and bytes
 abbrev pub SplicesAll : List ℕ → ℕ → List ℕ → List ℕ → Answer ump.Spliced → List ℕ → Type 0

@@ -1,6 +1,6 @@
 -- The checks of a list of edits lent as numbers, and the size of the result.
 -- Assumes nothing.
-use Rattle.std.specs.Prelude.{Bool, cond, ◌||◌, List, ℕ, suc, ◌+◌, ◌-◌, ltb}
+use Rattle.std.specs.Prelude.{Bool, cond, ◌||◌, List, ℕ, ◌+◌, ◌-◌, ltb, Option, None, Some}
 use Rattle.refusal.specs.Answer.{Answer, gives, Verdict, ◌▷◌, guard}
 use Rattle.ump.specs.Edits.{Edit, bad_edit, edits_of, lengths, bad_list, some_overlap}
 use Rattle.splice.specs.Merging.{widths}
@@ -23,6 +23,6 @@ listed n bytes numbers = list_check n bytes numbers ▷ gives (size_after n (edi
 abbrev pub out_of_turn : ℕ → ℕ → ℕ → Edit → Bool
 out_of_turn n left end edit = (bad_edit edit || ltb n edit.to) || (ltb left edit.length || ltb edit.from end)
 
--- one more than the bytes taken out; 0 where the list is refused
-unfoldable pub cut_found : ℕ → ℕ → List ℕ → ℕ
-cut_found n bytes numbers = cond (bad_list n bytes numbers || some_overlap 0 (edits_of numbers)) 0 (suc (widths (edits_of numbers)))
+-- the bytes taken out; none where the list is refused
+unfoldable pub cut_found : ℕ → ℕ → List ℕ → Option ℕ
+cut_found n bytes numbers = cond (bad_list n bytes numbers || some_overlap 0 (edits_of numbers)) None (Some (widths (edits_of numbers)))

@@ -1,6 +1,6 @@
 -- Where a byte of the result stands, if all edits of a list are done at once.
 -- Assumes nothing.
-use Rattle.std.specs.Prelude.{◌≡◌, List, ℕ, ◌+◌, take}
+use Rattle.std.specs.Prelude.{◌≡◌, List, ℕ, ◌+◌, take, Option, None, Some}
 use Rattle.refusal.specs.Answer.{Answer, gives, refused, ◌▷◌}
 use Rattle.ump.specs.Edits.{Edit, edits_of, lengths}
 use Rattle.ump.specs.Runs.{Run, of_dump, of_edit, past, run_at}
@@ -25,8 +25,8 @@ placed n bytes numbers i = list_check n bytes numbers ▷ place_of (edits_of num
 
 -- ---- what the walk finds. For the code's own promises; no public promise needs it
 
-abbrev pub BeginsAt : ℕ → List Edit → ℕ → Standing → Type 0
-BeginsAt n edits i (standing.Dump at) = beginning (run_at n edits i) ≡ carried (dump_byte at)
-BeginsAt n edits i (standing.Edit place) =
-    (beginning (run_at n edits i) ≡ carried (edit_byte place.edit place.byte)) × (place.at ≡ lengths (take place.edit edits) + place.byte)
-BeginsAt n edits i standing.Past = beginning (run_at n edits i) ≡ filler
+abbrev pub BeginsAt : ℕ → List Edit → ℕ → Option Standing → Type 0
+BeginsAt n edits i (Some (standing.Dump at)) = beginning (run_at n edits i) ≡ carried (dump_byte at)
+BeginsAt n edits i (Some (standing.Edit place at)) =
+    (beginning (run_at n edits i) ≡ carried (edit_byte place.edit place.byte)) × (at ≡ lengths (take place.edit edits) + place.byte)
+BeginsAt n edits i None = beginning (run_at n edits i) ≡ filler

@@ -6,10 +6,9 @@ ghost use Rattle.splice.specs.Meaning.{spliced_meaning};
 ghost use Rattle.message.specs.Accepted.{Accepted};
 
 use crate::Edit;
-use crate::listed::Listed;
-use message::sysex8::Checked;
-use refusal::Refusal;
-use splice::sysex8::{Change, Spliced};
+use crate::listed::Edits;
+use refusal::{Fault, Refusal};
+use splice::sysex8::Change;
 
 // All edits of a message that passed the check: Range, Overlap, Room, and then the fewest-packet form of the result.
 fn splice_checked(
@@ -18,44 +17,41 @@ fn splice_checked(
     size: usize,
     numbers: &[usize],
     bytes: &[u8],
-) -> Spliced
+) -> Result<Change, Fault>
     requires { Accepted words.old length size }
     ensures { (spliced_meaning result, words.new)
         ≡ splice_all sysex8 words.old length numbers.now bytes.now }
 {
-    let listed = crate::listed::check_list(numbers, size, bytes.len());
-    match listed {
-        Listed::Refused(fault) => Spliced::Refused(fault),
-        Listed::Size(total) => {
-            let needed = splice::sysex8::words_needed(total);
-            if words.len() < needed {
-                return Spliced::Refused(crate::fault(Refusal::Room));
-            }
-            splice::replacing::replace_all(words, length, size, total, numbers, bytes);
-            let whole = Edit {
-                from: 0,
-                to: size,
-                length: total,
-            };
-            let change = Change {
-                length: needed,
-                growth: crate::growth_of(whole),
-            };
-            Spliced::Done(change)
-        }
+    let edits = Edits::checked(numbers, size, bytes.len())?;
+    let total = edits.total();
+    let needed = splice::sysex8::words_needed(total);
+    if words.len() < needed {
+        return Err(Refusal::Room.into());
     }
+    splice::replacing::replace_all(words, length, size, total, numbers, bytes);
+    let whole = Edit {
+        from: 0,
+        to: size,
+        length: total,
+    };
+    Ok(Change {
+        length: needed,
+        growth: crate::growth_of(whole),
+    })
 }
 
 // Replaces all ranges of a list at once: edit i has the numbers 3i, 3i + 1 and 3i + 2, from, to and replacement length, and its
 // bytes follow those of the edits before it. The check's refusals, then Range, Overlap, Room when the result needs more words
 // than are lent.
-pub fn splice_all(words: &mut [u32], length: usize, numbers: &[usize], bytes: &[u8]) -> Spliced
+pub fn splice_all(
+    words: &mut [u32],
+    length: usize,
+    numbers: &[usize],
+    bytes: &[u8],
+) -> Result<Change, Fault>
     ensures { (spliced_meaning result, words.new)
         ≡ splice_all sysex8 words.old length numbers.now bytes.now }
 {
-    let checked = message::sysex8::check(words, length);
-    match checked {
-        Checked::Refused(fault) => Spliced::Refused(fault),
-        Checked::Message(message) => splice_checked(words, length, message.size, numbers, bytes),
-    }
+    let message = message::sysex8::check(words, length)?;
+    splice_checked(words, length, message.size, numbers, bytes)
 }

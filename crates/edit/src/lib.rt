@@ -5,8 +5,9 @@
 ghost use Rattle.std.specs.Prelude.{◌≡◌, ◌≤◌};
 ghost use Rattle.ump.specs.Limits.{most_bytes};
 ghost use Rattle.ump.specs.Edits.{growth, bad_edit, moved_past, move_edit};
-ghost use Rattle.edit.specs.Meaning.{edit_meaning, grown_meaning, moved_meaning};
+ghost use Rattle.edit.specs.Meaning.{edit_meaning, moved_meaning};
 ghost use Rattle.edit.specs.Growth.{growth_of, Sound};
+ghost use Rattle.refusal.specs.Meaning.{answer_of};
 
 use refusal::{Fault, Refusal};
 
@@ -20,52 +21,25 @@ pub use origins::{EditByte, HeaderOctet, OctetOrigin, origin};
 pub use placing::{Placed, place};
 
 // An edit is from, to and replacement length.
-#[derive(Clone, Copy)]
+#[derive(Clone, Copy, Debug, PartialEq, Eq)]
 pub struct Edit {
     pub from: usize,
     pub to: usize,
     pub length: usize,
 }
 
-// The bytes from..to of a payload.
-#[derive(Drop)]
+// The bytes from..to of a payload. Not std's Range: theorems (ShutOut, AnswersFixed) name this type.
+#[derive(Clone, Copy, Debug, PartialEq, Eq)]
 pub struct Range {
     pub from: usize,
     pub to: usize,
-}
-
-// The answer of the growth of an edit.
-#[derive(Drop)]
-pub enum Grown {
-    By(i64),
-    Refused(Fault),
-}
-
-// The answer of moving an edit: the pending one's new range.
-#[derive(Drop)]
-pub enum Moved {
-    Range(Range),
-    Refused(Fault),
-}
-
-// A refusal of a call on edits has place 0.
-fn fault(refusal: Refusal) -> Fault
-    ensures { result ≡ record { refusal = refusal; place = 0 } }
-{
-    Fault { refusal, place: 0 }
 }
 
 // Whether an edit is reversed, or a number within it is above the most bytes.
 pub fn is_bad(edit: Edit) -> bool
     ensures { result ≡ bad_edit (edit_meaning edit) }
 {
-    if edit.to < edit.from {
-        return true;
-    }
-    if edit.to > layout::MOST_BYTES {
-        return true;
-    }
-    edit.length > layout::MOST_BYTES
+    edit.to < edit.from || edit.to > layout::MOST_BYTES || edit.length > layout::MOST_BYTES
 }
 
 // Growth, replacement length minus range length, may be below zero.
@@ -85,39 +59,36 @@ fn moved_past(done: Edit, place: usize) -> usize
 }
 
 // The growth of an edit; Range for one that is reversed or has a number above the most bytes.
-pub fn growth(edit: Edit) -> Grown
-    ensures { grown_meaning result ≡ growth_of (edit_meaning edit) }
+pub fn growth(edit: Edit) -> Result<i64, Fault>
+    ensures { answer_of result ≡ growth_of (edit_meaning edit) }
 {
     if is_bad(edit) {
-        return Grown::Refused(fault(Refusal::Range));
+        return Err(Refusal::Range.into());
     }
-    Grown::By(growth_of(edit))
+    Ok(growth_of(edit))
 }
 
 // The pending edit's new range, both as of the message just before the done one was spliced: moved by the growth if the done edit
 // is first, else unmoved. Range (either edit), then Overlap (first's to above second's from).
-pub fn move_edit(done: Edit, pending: Edit, done_first: bool) -> Moved
+pub fn move_edit(done: Edit, pending: Edit, done_first: bool) -> Result<Range, Fault>
     ensures { moved_meaning result ≡ move_edit (edit_meaning done) (edit_meaning pending) done_first }
 {
-    if is_bad(done) {
-        return Moved::Refused(fault(Refusal::Range));
-    }
-    if is_bad(pending) {
-        return Moved::Refused(fault(Refusal::Range));
+    if is_bad(done) || is_bad(pending) {
+        return Err(Refusal::Range.into());
     }
     if done_first {
         if pending.from < done.to {
-            return Moved::Refused(fault(Refusal::Overlap));
+            return Err(Refusal::Overlap.into());
         }
-        Moved::Range(Range {
+        Ok(Range {
             from: moved_past(done, pending.from),
             to: moved_past(done, pending.to),
         })
     } else {
         if done.from < pending.to {
-            return Moved::Refused(fault(Refusal::Overlap));
+            return Err(Refusal::Overlap.into());
         }
-        Moved::Range(Range {
+        Ok(Range {
             from: pending.from,
             to: pending.to,
         })

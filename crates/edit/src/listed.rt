@@ -1,21 +1,29 @@
 // Checks of a list of edits that is lent as numbers: from, to and replacement length of each.
-ghost use Rattle.std.specs.Prelude.{◌≡◌, not, ◌+◌, ◌/◌, ◌^◌, ◌<◌, eqb, length};
-ghost use Rattle.ump.specs.Edits.{lengths, some_bad, per_edit, edit_in, edits_of};
+ghost use Rattle.std.specs.Prelude.{◌≡◌, not, ◌+◌, ◌/◌, ◌^◌, ◌<◌, eqb, length, IfOk, IfErr};
+ghost use Rattle.refusal.specs.Answer.{gives, pass};
+ghost use Rattle.ump.specs.Edits.{lengths, some_bad, bad_list, per_edit, edit_in, edits_of};
 ghost use Rattle.message.specs.Scan.{Explains};
-ghost use Rattle.edit.specs.Meaning.{edit_meaning, size_meaning};
+ghost use Rattle.edit.specs.Meaning.{edit_meaning};
 ghost use Rattle.edit.specs.Listed.{list_check, out_of_turn, cut_found, listed};
+ghost use Rattle.refusal.specs.Meaning.{fault_of, at_start};
+ghost use Rattle.splice.specs.Merging.{widths};
 
 use crate::Edit;
 use refusal::{Fault, Refusal};
 
-// How many numbers an edit has.
+// How many numbers an edit has: C lends a list as numbers end to end.
 pub(crate) const NUMBERS: usize = 3;
 
-// The size of the result of all edits, or why they are refused.
-#[derive(Drop)]
-pub(crate) enum Listed {
-    Size(usize),
-    Refused(Fault),
+// A list of edits that passed its checks: of a payload of `size` bytes, lent as numbers, with `bytes` replacement bytes. It takes out
+// `cut` bytes.
+#[derive(Clone, Copy)]
+pub(crate) struct Edits<'a> {
+    pub(crate) numbers: &'a [usize],
+    pub(crate) size: usize,
+    bytes: usize,
+    cut: usize,
+    ghost passed: { list_check size bytes numbers.now ≡ pass },
+    ghost counted: { cut ≡ widths (edits_of numbers.now) },
 }
 
 // Edit `index` of the list.
@@ -35,35 +43,22 @@ pub(crate) fn edit_at(numbers: &[usize], index: usize) -> Edit
 fn some_bad(numbers: &[usize], size: usize) -> bool
     ensures { result ≡ some_bad size (edits_of numbers.now) }
 {
-    let count = numbers.len() / NUMBERS;
-    let mut index = 0;
-    while index < count {
+    (0..numbers.len() / NUMBERS).any(|index| {
         let edit = edit_at(numbers, index);
-        if crate::is_bad(edit) {
-            return true;
-        }
-        if edit.to > size {
-            return true;
-        }
-        index += 1;
-    }
-    false
+        crate::is_bad(edit) || edit.to > size
+    })
 }
 
 // Whether the replacement lengths come to another number than `bytes`; a length is tested before it is taken off.
 fn lengths_differ(numbers: &[usize], bytes: usize) -> bool
     ensures { result ≡ not (eqb bytes (lengths (edits_of numbers.now))) }
 {
-    let count = numbers.len() / NUMBERS;
     let mut left = bytes;
-    let mut index = 0;
-    while index < count {
-        let edit = edit_at(numbers, index);
-        if edit.length > left {
+    for index in 0..numbers.len() / NUMBERS {
+        let Some(rest) = left.checked_sub(edit_at(numbers, index).length) else {
             return true;
-        }
-        left -= edit.length;
-        index += 1;
+        };
+        left = rest;
     }
     left != 0
 }
@@ -72,70 +67,71 @@ fn lengths_differ(numbers: &[usize], bytes: usize) -> bool
 fn is_out(edit: Edit, size: usize, left: usize, end: usize) -> bool
     ensures { result ≡ out_of_turn size left end (edit_meaning edit) }
 {
-    if crate::is_bad(edit) {
-        return true;
-    }
-    if edit.to > size {
-        return true;
-    }
-    if edit.length > left {
-        return true;
-    }
-    edit.from < end
+    crate::is_bad(edit) || edit.to > size || edit.length > left || edit.from < end
 }
 
-// One walk over the edits: one more than the bytes that they take out of a payload of `size` bytes; 0 if the list is refused.
-pub(crate) fn cut_found(numbers: &[usize], size: usize, bytes: usize) -> usize
+// One walk over the edits: the bytes that they take out of a payload of `size` bytes; none if the list is refused.
+fn cut_found(numbers: &[usize], size: usize, bytes: usize) -> Option<usize>
     ensures { result ≡ cut_found size bytes numbers.now }
 {
     if numbers.len() % NUMBERS != 0 {
-        return 0;
+        return None;
     }
-    let count = numbers.len() / NUMBERS;
     let mut left = bytes;
     let mut end = 0;
     let mut cut = 0;
-    let mut index = 0;
-    while index < count {
+    for index in 0..numbers.len() / NUMBERS {
         let edit = edit_at(numbers, index);
         if is_out(edit, size, left, end) {
-            return 0;
+            return None;
         }
         cut += edit.to - edit.from;
         left -= edit.length;
         end = edit.to;
-        index += 1;
     }
-    if left != 0 {
-        return 0;
-    }
-    cut + 1
+    if left == 0 { Some(cut) } else { None }
+}
+
+// Whether the numbers are not whole edits, an edit is bad or past the payload, or the lengths are not those of the bytes.
+fn is_bad_list(numbers: &[usize], size: usize, bytes: usize) -> bool
+    ensures { result ≡ bad_list size bytes numbers.now }
+{
+    numbers.len() % NUMBERS != 0 || some_bad(numbers, size) || lengths_differ(numbers, bytes)
 }
 
 // Why a list is refused: Range, and Overlap where that is all that is wrong.
-pub(crate) fn why(numbers: &[usize], size: usize, bytes: usize) -> Fault
-    ensures { Explains (list_check size bytes numbers.now) result }
+fn why(numbers: &[usize], size: usize, bytes: usize) -> Refusal
+    ensures { Explains (list_check size bytes numbers.now) (at_start result) }
 {
-    if numbers.len() % NUMBERS != 0 {
-        return crate::fault(Refusal::Range);
+    if is_bad_list(numbers, size, bytes) {
+        Refusal::Range
+    } else {
+        Refusal::Overlap
     }
-    if some_bad(numbers, size) {
-        return crate::fault(Refusal::Range);
-    }
-    if lengths_differ(numbers, bytes) {
-        return crate::fault(Refusal::Range);
-    }
-    crate::fault(Refusal::Overlap)
 }
 
-// The checks of a list of edits of a payload of `size` bytes, Range then Overlap, and the size of the result.
-pub(crate) fn check_list(numbers: &[usize], size: usize, bytes: usize) -> Listed
-    requires { size + bytes < 2 ^ 64 }
-    ensures { size_meaning result ≡ listed size bytes numbers.now }
-{
-    let found = cut_found(numbers, size, bytes);
-    if found == 0 {
-        return Listed::Refused(why(numbers, size, bytes));
+impl<'a> Edits<'a> {
+    // The checks of a list of edits of a payload of `size` bytes, with `bytes` replacement bytes: Range, then Overlap.
+    pub(crate) fn checked(numbers: &'a [usize], size: usize, bytes: usize) -> Result<Self, Fault>
+        ensures ok { IfOk result (λ edits. (edits.numbers.now ≡ numbers.entry.now) × ((edits.size ≡ size) × (edits.bytes ≡ bytes))) }
+        ensures err { IfErr result (λ fault. fault_of fault ≡ list_check size bytes numbers.entry.now) }
+    {
+        let Some(cut) = cut_found(numbers, size, bytes) else {
+            return Err(why(numbers, size, bytes).into());
+        };
+        Ok(Edits {
+            numbers,
+            size,
+            bytes,
+            cut,
+        })
     }
-    Listed::Size(size - (found - 1) + bytes)
+
+    // The size of the result.
+    pub(crate) fn total(&self) -> usize
+        requires { self.now.size + self.now.bytes < 2 ^ 64 }
+        ensures { gives result ≡ listed self.now.size self.now.bytes self.now.numbers.now }
+    {
+        self.size - self.cut + self.bytes
+    }
 }

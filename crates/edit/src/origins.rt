@@ -1,27 +1,26 @@
 // Where an octet of the words lent comes from, if all edits of a list are done at once.
-ghost use Rattle.std.specs.Prelude.{◌≡◌, false, ◌^◌, ◌<◌};
-ghost use Rattle.refusal.specs.Answer.{gives};
+ghost use Rattle.std.specs.Prelude.{◌≡◌, ◌<◌};
 ghost use Rattle.ump.specs.Packet.{sysex8};
-ghost use Rattle.ump.specs.Edits.{edits_of, some_bad, some_overlap, lengths};
+ghost use Rattle.ump.specs.Edits.{edits_of};
 ghost use Rattle.ump.specs.Runs.{run_at};
 ghost use Rattle.ump.specs.Origin.{beginning, origin_of, origin as origin_for};
 ghost use Rattle.message.specs.Accepted.{Accepted};
-ghost use Rattle.edit.specs.Meaning.{origin_meaning};
+ghost use Rattle.edit.specs.Meaning.{octet_meaning, origin_meaning};
 
-use crate::listed::Listed;
+use crate::listed::Edits;
 use crate::placing::Standing;
-use message::sysex8::Checked;
+use layout::{Format, Sysex8};
 use refusal::{Fault, Refusal};
 
 // Of this packet, this octet of its header.
-#[derive(Drop)]
+#[derive(Clone, Copy, Debug, PartialEq, Eq)]
 pub struct HeaderOctet {
     pub packet: usize,
     pub octet: usize,
 }
 
 // Of this edit, this byte of its replacement.
-#[derive(Drop)]
+#[derive(Clone, Copy, Debug, PartialEq, Eq)]
 pub struct EditByte {
     pub edit: usize,
     pub byte: usize,
@@ -29,7 +28,7 @@ pub struct EditByte {
 
 // Where an octet comes from: a header of the message, a byte of the dump, one of an edit, an unused octet of the last packet;
 // behind the message it is zeroed where the old one stood, and untouched behind both.
-#[derive(Drop)]
+#[derive(Clone, Copy, Debug, PartialEq, Eq)]
 pub enum OctetOrigin {
     Header(HeaderOctet),
     Dump(usize),
@@ -37,53 +36,44 @@ pub enum OctetOrigin {
     Filler,
     Zeroed,
     Untouched,
-    Refused(Fault),
 }
 
 // Octets of a word.
 const WORD: usize = 4;
 
 // Octets of a packet.
-const PACKET: usize = 16;
+const PACKET: usize = WORD * Sysex8::WORDS;
 
 // Octets of a packet's header, which come first.
-const HEADER: usize = 3;
+const HEADER: usize = PACKET - Sysex8::ROOM;
 
-// Payload bytes that a packet has room for.
-const ROOM: usize = 13;
-
-// Byte `position` of the result, of a list that passed its checks.
-fn byte_origin(numbers: &[usize], size: usize, position: usize) -> OctetOrigin
-    requires { (some_bad size (edits_of numbers.now) ≡ false) × (some_overlap 0 (edits_of numbers.now) ≡ false)
-        × (lengths (edits_of numbers.now) < 2 ^ 64) }
-    ensures { origin_meaning result ≡ gives (beginning (run_at size (edits_of numbers.now) position)) }
-{
-    let stands = crate::placing::find_byte(numbers, size, position);
-    match stands {
-        Standing::Dump(byte) => OctetOrigin::Dump(byte),
-        Standing::Edit(replacement) => OctetOrigin::Edit(EditByte {
-            edit: replacement.edit,
-            byte: replacement.byte,
-        }),
-        Standing::Past => OctetOrigin::Filler,
+impl Edits<'_> {
+    // Byte `position` of the result.
+    fn byte_origin(&self, position: usize) -> OctetOrigin
+        ensures { octet_meaning result ≡ beginning (run_at self.now.size (edits_of self.now.numbers.now) position) }
+    {
+        match self.find_byte(position) {
+            Some(Standing::Dump(byte)) => OctetOrigin::Dump(byte),
+            Some(Standing::Edit(byte, _)) => OctetOrigin::Edit(byte),
+            None => OctetOrigin::Filler,
+        }
     }
-}
 
-// Octet `octet` of the message with all edits of a list that passed its checks.
-fn octet_origin(numbers: &[usize], size: usize, octet: usize) -> OctetOrigin
-    requires { (some_bad size (edits_of numbers.now) ≡ false) × (some_overlap 0 (edits_of numbers.now) ≡ false)
-        × (lengths (edits_of numbers.now) < 2 ^ 64) × (octet < 65536) }
-    ensures { origin_meaning result ≡ gives (origin_of sysex8 size (edits_of numbers.now) octet) }
-{
-    let packet = octet / PACKET;
-    let within = octet % PACKET;
-    if within < HEADER {
-        return OctetOrigin::Header(HeaderOctet {
-            packet,
-            octet: within,
-        });
+    // Octet `octet` of the message with all edits.
+    fn octet_origin(&self, octet: usize) -> OctetOrigin
+        requires { octet < 65536 }
+        ensures { octet_meaning result ≡ origin_of sysex8 self.now.size (edits_of self.now.numbers.now) octet }
+    {
+        let packet = octet / PACKET;
+        let within = octet % PACKET;
+        if within < HEADER {
+            return OctetOrigin::Header(HeaderOctet {
+                packet,
+                octet: within,
+            });
+        }
+        self.byte_origin(Sysex8::ROOM * packet + (within - HEADER))
     }
-    byte_origin(numbers, size, ROOM * packet + (within - HEADER))
 }
 
 // An octet of the words lent, of a message that passed the check: Range, Overlap, Room, Range for an octet behind the words.
@@ -94,31 +84,26 @@ fn origin_checked(
     numbers: &[usize],
     bytes: &[u8],
     octet: usize,
-) -> OctetOrigin
+) -> Result<OctetOrigin, Fault>
     requires { Accepted words.now length size }
     ensures { origin_meaning result ≡ origin_for sysex8 words.now length numbers.now bytes.now octet }
 {
-    let listed = crate::listed::check_list(numbers, size, bytes.len());
-    match listed {
-        Listed::Refused(fault) => OctetOrigin::Refused(fault),
-        Listed::Size(total) => {
-            let needed = splice::sysex8::words_needed(total);
-            let word = octet / WORD;
-            if words.len() < needed {
-                return OctetOrigin::Refused(crate::fault(Refusal::Room));
-            }
-            if word >= words.len() {
-                return OctetOrigin::Refused(crate::fault(Refusal::Range));
-            }
-            if word < needed {
-                return octet_origin(numbers, size, octet);
-            }
-            if word < length {
-                return OctetOrigin::Zeroed;
-            }
-            OctetOrigin::Untouched
-        }
+    let edits = Edits::checked(numbers, size, bytes.len())?;
+    let needed = splice::sysex8::words_needed(edits.total());
+    let word = octet / WORD;
+    if words.len() < needed {
+        return Err(Refusal::Room.into());
     }
+    if word >= words.len() {
+        return Err(Refusal::Range.into());
+    }
+    if word < needed {
+        return Ok(edits.octet_origin(octet));
+    }
+    if word < length {
+        return Ok(OctetOrigin::Zeroed);
+    }
+    Ok(OctetOrigin::Untouched)
 }
 
 // Where octet `octet` of the words lent comes from, if all edits of the list are done by `splice_all`: refused as that is, then
@@ -129,14 +114,9 @@ pub fn origin(
     numbers: &[usize],
     bytes: &[u8],
     octet: usize,
-) -> OctetOrigin
+) -> Result<OctetOrigin, Fault>
     ensures { origin_meaning result ≡ origin_for sysex8 words.now length numbers.now bytes.now octet }
 {
-    let checked = message::sysex8::check(words, length);
-    match checked {
-        Checked::Refused(fault) => OctetOrigin::Refused(fault),
-        Checked::Message(message) => {
-            origin_checked(words, length, message.size, numbers, bytes, octet)
-        }
-    }
+    let message = message::sysex8::check(words, length)?;
+    origin_checked(words, length, message.size, numbers, bytes, octet)
 }

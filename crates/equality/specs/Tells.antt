@@ -14,3 +14,7 @@ Begins list size expected = (size ≤ length list) × (take size list ≡ expect
 -- the list is a front, and then zeros; or a part of the front
 abbrev pub Padded : List ℕ → List ℕ → Type 0
 Padded front list = (at : ℕ) → at < length list → get_or list at 0 ≡ get_or front at 0
+
+-- the same in a list of any items, by their comparison, with this filler behind the front
+abbrev pub PaddedBy : {T : Type 0} → (T → T → Bool) → T → List T → List T → Type 0
+PaddedBy same filler front list = (at : ℕ) → at < length list → same (get_or list at filler) (get_or front at filler) ≡ true

@@ -1,4 +1,5 @@
-// Lists compared, by a function for each type of element. Bytes are compared by `check::same` of the kit, which promises the same.
+// Lists compared by the slices' own `==`, with what the answer tells as a promise. Bytes are compared by `check::same` of the kit, which
+// promises the same.
 #![tactic(auto)]
 
 pub mod numbers;

@@ -6,15 +6,5 @@ ghost use Rattle.equality.specs.Tells.{Tells};
 pub fn same_words(words: &[u32], expected: &[u32]) -> bool
     ensures { Tells result (words.now ≡ expected.now) }
 {
-    if words.len() != expected.len() {
-        return false;
-    }
-    let mut at = 0;
-    while at < words.len() {
-        if words[at] != expected[at] {
-            return false;
-        }
-        at += 1;
-    }
-    true
+    words == expected
 }

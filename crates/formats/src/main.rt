@@ -3,18 +3,18 @@
 #![tactic(auto)]
 
 use std::io;
+use stores::samples::report_all;
 
 mod records;
 mod unwanted;
 
 // Writes a line for each sample.
 fn main(rt: HostRuntime) -> io::Result<()> {
-    records::report_kinds(&rt)?;
-    records::report_bodies(&rt)?;
-    records::report_places(&rt)?;
-    records::report_order(&rt)?;
-    unwanted::report_read(&rt)?;
-    unwanted::report_refused(&rt)?;
-    unwanted::report_counts(&rt)?;
-    Ok(())
+    report_all(&rt, &records::KINDS)?;
+    report_all(&rt, &records::BODIES)?;
+    report_all(&rt, &records::PLACES)?;
+    report_all(&rt, &records::ORDER)?;
+    report_all(&rt, &unwanted::READ)?;
+    report_all(&rt, &unwanted::REFUSED)?;
+    unwanted::report_counts(&rt)
 }

@@ -1,6 +1,6 @@
 -- What is said of a store of dumps, over the promises of the exported calls. Assumes nothing.
+use Rattle.std.specs.Prelude.{Option, None, Some}
 use mathlib.Core.Path.{◌≡◌, refl, sym, ap, ◌∙◌}
-use mathlib.Core.Option.{Option, none, some}
 use mathlib.Core.List.{List, []}
 use Prim.Native.Nat.{ℕ}
 use Rattle.refusal.specs.Answer.{Answer, gives, refused, Verdict}
@@ -27,8 +27,8 @@ use Rattle.latchbeacon.proofs.Restorer.{Restores, Describes, Checks, Marks, Coll
 
 -- each answer is read back from its struct
 dump-given : (d : Description) (base : Option ℕ) → d.base ≡ base → dump_read (dump_answer (gives d)) ≡ gives d
-dump-given d none e = rw e
-dump-given d (some base) e = rw e
+dump-given d None e = rw e
+dump-given d (Some base) e = rw e
 
 dump-read : (answer : Answer Description) → Named answer → dump_read (dump_answer answer) ≡ answer
 dump-read (gives d) h = dump-given d d.base refl

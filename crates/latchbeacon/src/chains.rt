@@ -13,7 +13,7 @@ use answers::{DumpAnswer, NumberAnswer};
 pub extern "C" fn latchbeacon_store_check(store: &[u8]) -> NumberAnswer
     ensures { result ≡ number_answer (check_store store.now) }
 {
-    answers::checked(store::check(store))
+    answers::answer(store::check(store))
 }
 
 // Describes the dump of this number: whole or a delta of a base, its group, stream id and payload size, the words that restoring it needs,
@@ -22,7 +22,7 @@ pub extern "C" fn latchbeacon_store_check(store: &[u8]) -> NumberAnswer
 pub extern "C" fn latchbeacon_store_describe(store: &[u8], number: usize) -> DumpAnswer
     ensures { result ≡ dump_answer (describe store.now number) }
 {
-    answers::described(chain::describe(store, number))
+    answers::answer(chain::describe(store, number))
 }
 
 // Restores the dump of this number, its base first and then its edits, in fewest-packet form, zeroes all lent words past it, and answers
@@ -35,7 +35,7 @@ pub extern "C" fn latchbeacon_store_restore(
 ) -> NumberAnswer
     ensures { (result, words.new) ≡ leaving number_answer (restore store.now number words.old) }
 {
-    answers::restored(restore::restore(store, number, words))
+    answers::answer(restore::restore(store, number, words))
 }
 
 // Marks the dump of this number unwanted; Format, Twice, Full, Missing.
@@ -43,7 +43,7 @@ pub extern "C" fn latchbeacon_store_restore(
 pub extern "C" fn latchbeacon_store_mark(store: &mut [u8], number: usize) -> NumberAnswer
     ensures { (result, store.new) ≡ leaving done_answer (mark store.old number) }
 {
-    answers::marked(reclaim::mark(store, number))
+    answers::answer(reclaim::mark(store, number))
 }
 
 // Collects: keeps each wanted dump and each dump that a wanted one rests on, moves their records down in their old order, zeroes the rest
@@ -52,7 +52,7 @@ pub extern "C" fn latchbeacon_store_mark(store: &mut [u8], number: usize) -> Num
 pub extern "C" fn latchbeacon_store_collect(store: &mut [u8]) -> NumberAnswer
     ensures { (result, store.new) ≡ leaving number_answer (collect store.old) }
 {
-    answers::collected(reclaim::collect(store))
+    answers::answer(reclaim::collect(store))
 }
 
 // The byte at `position` of the payload that restoring the dump of this number would give, without restoring it; Format, Twice, Full,
@@ -65,5 +65,5 @@ pub extern "C" fn latchbeacon_store_look_byte(
 ) -> NumberAnswer
     ensures { result ≡ number_answer (byte_of_dump store.now number position) }
 {
-    answers::byte(look_store::byte(store, number, position))
+    answers::answer(look_store::byte(store, number, position))
 }

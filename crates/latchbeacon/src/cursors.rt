@@ -12,7 +12,7 @@ use reader::Cursor;
 pub extern "C" fn latchbeacon_sysex8_open(words: &[u32], length: usize) -> CursorAnswer
     ensures { result ≡ cursor_answer (reader sysex8 words.now length) }
 {
-    answers::cursor(reader::open(words, length))
+    answers::answer(reader::open(words, length))
 }
 
 // The next byte, or the end.
@@ -30,7 +30,7 @@ pub extern "C" fn latchbeacon_sysex8_next(
         byte,
         remaining,
     };
-    answers::read(reader::next(words, cursor))
+    reader::next(words, cursor).into()
 }
 
 // Skip-then-read.
@@ -50,7 +50,7 @@ pub extern "C" fn latchbeacon_sysex8_nth(
         byte,
         remaining,
     };
-    answers::read(reader::nth(words, cursor, skip))
+    reader::nth(words, cursor, skip).into()
 }
 
 // Bytes remaining: the smaller of the cursor's count and the bytes that stand there.

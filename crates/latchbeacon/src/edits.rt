@@ -12,7 +12,7 @@ use edit::Edit;
 pub extern "C" fn latchbeacon_growth(from: usize, to: usize, length: usize) -> GrowthAnswer
     ensures { result ≡ growth_answer (growth_of (record { from = from; to = to; length = length })) }
 {
-    answers::growth(edit::growth(Edit { from, to, length }))
+    answers::answer(edit::growth(Edit { from, to, length }))
 }
 
 // The pending edit's new range, both as of the message just before the done one was spliced; Range, then Overlap.
@@ -40,5 +40,5 @@ pub extern "C" fn latchbeacon_move_edit(
         to: pending_to,
         length: pending_length,
     };
-    answers::range(edit::move_edit(done, pending, done_first))
+    answers::answer(edit::move_edit(done, pending, done_first))
 }

@@ -1,4 +1,4 @@
-// The exported calls on the fields of a word.
+// The exported calls on the fields of a word. Calls that are alike stay apart: C has a name for each.
 ghost use Rattle.std.specs.Prelude.{◌≡◌};
 ghost use Rattle.ump.specs.Word.{bit_field, crumb_field, nibble_field, septet_field, octet_field, word_field, get_field, set_field};
 ghost use Rattle.bit_ops.specs.Meaning.{bit_number};
@@ -11,7 +11,7 @@ use answers::NumberAnswer;
 pub extern "C" fn latchbeacon_bit(word: u32, index: usize) -> NumberAnswer
     ensures { result ≡ number_answer (get_field bit_field word index) }
 {
-    answers::bit(bit_ops::bit(word, index))
+    answers::answer(bit_ops::bit(word, index))
 }
 
 // The word with a bit, set; Field.
@@ -19,7 +19,7 @@ pub extern "C" fn latchbeacon_bit(word: u32, index: usize) -> NumberAnswer
 pub extern "C" fn latchbeacon_set_bit(word: u32, index: usize, value: bool) -> NumberAnswer
     ensures { result ≡ number_answer (set_field bit_field word index (bit_number value)) }
 {
-    answers::field_set(bit_ops::set_bit(word, index, value))
+    answers::answer(bit_ops::set_bit(word, index, value))
 }
 
 // Reads a crumb, of two bits, by its index, 0 for the most significant; Field.
@@ -27,7 +27,7 @@ pub extern "C" fn latchbeacon_set_bit(word: u32, index: usize, value: bool) -> N
 pub extern "C" fn latchbeacon_crumb(word: u32, index: usize) -> NumberAnswer
     ensures { result ≡ number_answer (get_field crumb_field word index) }
 {
-    answers::byte(bit_ops::crumb(word, index))
+    answers::answer(bit_ops::crumb(word, index))
 }
 
 // The word with a crumb, of two bits, set; Field.
@@ -35,7 +35,7 @@ pub extern "C" fn latchbeacon_crumb(word: u32, index: usize) -> NumberAnswer
 pub extern "C" fn latchbeacon_set_crumb(word: u32, index: usize, value: u8) -> NumberAnswer
     ensures { result ≡ number_answer (set_field crumb_field word index value) }
 {
-    answers::field_set(bit_ops::set_crumb(word, index, value))
+    answers::answer(bit_ops::set_crumb(word, index, value))
 }
 
 // Reads a nibble, of four bits, by its index, 0 for the most significant; Field.
@@ -43,7 +43,7 @@ pub extern "C" fn latchbeacon_set_crumb(word: u32, index: usize, value: u8) -> N
 pub extern "C" fn latchbeacon_nibble(word: u32, index: usize) -> NumberAnswer
     ensures { result ≡ number_answer (get_field nibble_field word index) }
 {
-    answers::byte(bit_ops::nibble(word, index))
+    answers::answer(bit_ops::nibble(word, index))
 }
 
 // The word with a nibble, of four bits, set; Field.
@@ -51,7 +51,7 @@ pub extern "C" fn latchbeacon_nibble(word: u32, index: usize) -> NumberAnswer
 pub extern "C" fn latchbeacon_set_nibble(word: u32, index: usize, value: u8) -> NumberAnswer
     ensures { result ≡ number_answer (set_field nibble_field word index value) }
 {
-    answers::field_set(bit_ops::set_nibble(word, index, value))
+    answers::answer(bit_ops::set_nibble(word, index, value))
 }
 
 // Reads a septet, the low seven bits of an octet, by its index, 0 for the most significant; Field.
@@ -59,7 +59,7 @@ pub extern "C" fn latchbeacon_set_nibble(word: u32, index: usize, value: u8) -> 
 pub extern "C" fn latchbeacon_septet(word: u32, index: usize) -> NumberAnswer
     ensures { result ≡ number_answer (get_field septet_field word index) }
 {
-    answers::byte(bit_ops::septet(word, index))
+    answers::answer(bit_ops::septet(word, index))
 }
 
 // The word with a septet, the low seven bits of an octet, set; Field. Its octet's top bit is kept.
@@ -67,7 +67,7 @@ pub extern "C" fn latchbeacon_septet(word: u32, index: usize) -> NumberAnswer
 pub extern "C" fn latchbeacon_set_septet(word: u32, index: usize, value: u8) -> NumberAnswer
     ensures { result ≡ number_answer (set_field septet_field word index value) }
 {
-    answers::field_set(bit_ops::set_septet(word, index, value))
+    answers::answer(bit_ops::set_septet(word, index, value))
 }
 
 // Reads an octet, by its index, 0 for the most significant; Field.
@@ -75,7 +75,7 @@ pub extern "C" fn latchbeacon_set_septet(word: u32, index: usize, value: u8) -> 
 pub extern "C" fn latchbeacon_octet(word: u32, index: usize) -> NumberAnswer
     ensures { result ≡ number_answer (get_field octet_field word index) }
 {
-    answers::byte(bit_ops::octet(word, index))
+    answers::answer(bit_ops::octet(word, index))
 }
 
 // The word with an octet, set; Field.
@@ -83,7 +83,7 @@ pub extern "C" fn latchbeacon_octet(word: u32, index: usize) -> NumberAnswer
 pub extern "C" fn latchbeacon_set_octet(word: u32, index: usize, value: u8) -> NumberAnswer
     ensures { result ≡ number_answer (set_field octet_field word index value) }
 {
-    answers::field_set(bit_ops::set_octet(word, index, value))
+    answers::answer(bit_ops::set_octet(word, index, value))
 }
 
 // Reads a word of 16 bits, by its index, 0 for the most significant; Field.
@@ -91,7 +91,7 @@ pub extern "C" fn latchbeacon_set_octet(word: u32, index: usize, value: u8) -> N
 pub extern "C" fn latchbeacon_word(word: u32, index: usize) -> NumberAnswer
     ensures { result ≡ number_answer (get_field word_field word index) }
 {
-    answers::word(bit_ops::word(word, index))
+    answers::answer(bit_ops::word(word, index))
 }
 
 // The word with a word of 16 bits, set; Field.
@@ -99,5 +99,5 @@ pub extern "C" fn latchbeacon_word(word: u32, index: usize) -> NumberAnswer
 pub extern "C" fn latchbeacon_set_word(word: u32, index: usize, value: u16) -> NumberAnswer
     ensures { result ≡ number_answer (set_field word_field word index value) }
 {
-    answers::field_set(bit_ops::set_word(word, index, value))
+    answers::answer(bit_ops::set_word(word, index, value))
 }

@@ -19,7 +19,7 @@ pub extern "C" fn latchbeacon_look_run(
 ) -> RunAnswer
     ensures { result ≡ run_answer (find size (record { from = from; to = to; length = length }) position) }
 {
-    answers::run(look::find(size, Edit { from, to, length }, position))
+    answers::answer(look::find(size, Edit { from, to, length }, position))
 }
 
 // The byte at `position` of a payload with all edits of a list, lent as for all edits at once; Range, Overlap, then Range for the
@@ -33,7 +33,7 @@ pub extern "C" fn latchbeacon_look_byte(
 ) -> NumberAnswer
     ensures { result ≡ number_answer (byte_of payload.now numbers.now bytes.now position) }
 {
-    answers::byte(look::byte(payload, numbers, bytes, position))
+    answers::answer(look::byte(payload, numbers, bytes, position))
 }
 
 // The same of the payload of a message; the check's refusals, then Range, Overlap, then Range for the position.
@@ -48,5 +48,5 @@ pub extern "C" fn latchbeacon_sysex8_look_byte(
     ensures { result
         ≡ number_answer (byte_of_message sysex8 words.now length numbers.now bytes.now position) }
 {
-    answers::byte(look::byte_of_message(words, length, numbers, bytes, position))
+    answers::answer(look::byte_of_message(words, length, numbers, bytes, position))
 }

@@ -1,4 +1,4 @@
-// The exported calls on messages: the check, payload bytes, what another sender wrote, and the setters.
+// The exported calls on messages: the check, payload bytes, what another sender wrote, and the setters. Those of the two message types stay apart: C has a name for each.
 ghost use Rattle.std.specs.Prelude.{◌≡◌, [], ◌∷◌};
 ghost use Rattle.ump.specs.Packet.{sysex8, sysex7};
 ghost use Rattle.ump.specs.Check.{checked};
@@ -13,7 +13,7 @@ use answers::{MessageAnswer, NumberAnswer};
 pub extern "C" fn latchbeacon_sysex8_check(words: &[u32], length: usize) -> MessageAnswer
     ensures { result ≡ message_answer (checked sysex8 words.now length) }
 {
-    answers::message8(message::sysex8::check(words, length))
+    answers::answer(message::sysex8::check(words, length))
 }
 
 // Checks the SysEx7 message in the first `length` of the words lent; refusals 1 to 11.
@@ -21,7 +21,7 @@ pub extern "C" fn latchbeacon_sysex8_check(words: &[u32], length: usize) -> Mess
 pub extern "C" fn latchbeacon_sysex7_check(words: &[u32], length: usize) -> MessageAnswer
     ensures { result ≡ message_answer (checked sysex7 words.now length) }
 {
-    answers::message7(message::sysex7::check(words, length))
+    answers::answer(message::sysex7::check(words, length))
 }
 
 // Payload byte `index` of the message; the check's refusals, then Range.
@@ -33,7 +33,7 @@ pub extern "C" fn latchbeacon_sysex8_byte(
 ) -> NumberAnswer
     ensures { result ≡ number_answer (get_byte sysex8 words.now length index) }
 {
-    answers::byte(message::sysex8::byte(words, length, index))
+    answers::answer(message::sysex8::byte(words, length, index))
 }
 
 // Copies the payload to the bytes lent and answers its size; the check's refusals, then Room.
@@ -45,7 +45,7 @@ pub extern "C" fn latchbeacon_sysex8_payload(
 ) -> NumberAnswer
     ensures { (result, bytes.new) ≡ leaving number_answer (copy_payload sysex8 words.now length bytes.old) }
 {
-    answers::copied(message::sysex8::payload(words, length, bytes))
+    answers::answer(message::sysex8::payload(words, length, bytes))
 }
 
 // Whether the message, in any packing, carries this payload with this group and stream id; the check's refusals, then Field, Other.
@@ -59,7 +59,7 @@ pub extern "C" fn latchbeacon_sysex8_carries(
 ) -> NumberAnswer
     ensures { result ≡ done_answer (carries sysex8 words.now length payload.now group (id ∷ [])) }
 {
-    answers::carried(carries::carries(words, length, payload, group, id))
+    answers::answer(carries::carries(words, length, payload, group, id))
 }
 
 // Sets the group of the message; the check's refusals, then Field.
@@ -71,7 +71,7 @@ pub extern "C" fn latchbeacon_sysex8_set_group(
 ) -> NumberAnswer
     ensures { (result, words.new) ≡ leaving done_answer (set_group sysex8 words.old length group) }
 {
-    answers::stored(message::sysex8::set_group(words, length, group))
+    answers::answer(message::sysex8::set_group(words, length, group))
 }
 
 // Sets the stream id of the message; the check's refusals.
@@ -83,7 +83,7 @@ pub extern "C" fn latchbeacon_sysex8_set_stream_id(
 ) -> NumberAnswer
     ensures { (result, words.new) ≡ leaving done_answer (set_id words.old length id) }
 {
-    answers::stored(message::sysex8::set_stream_id(words, length, id))
+    answers::answer(message::sysex8::set_stream_id(words, length, id))
 }
 
 // Sets payload byte `index` of the message; the check's refusals, then Range.
@@ -96,5 +96,5 @@ pub extern "C" fn latchbeacon_sysex8_set_byte(
 ) -> NumberAnswer
     ensures { (result, words.new) ≡ leaving done_answer (set_byte sysex8 words.old length index value) }
 {
-    answers::stored(message::sysex8::set_byte(words, length, index, value))
+    answers::answer(message::sysex8::set_byte(words, length, index, value))
 }

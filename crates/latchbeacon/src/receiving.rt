@@ -26,5 +26,5 @@ pub extern "C" fn latchbeacon_ports_receive(
     ensures { (result, (table.new, words.new, output.new))
         ≡ leaving received_answer (receive table.old words.old port packet.now output.old) }
 {
-    answers::received(ports::receive(table, words, port, packet, output))
+    answers::answer(ports::receive(table, words, port, packet, output))
 }

@@ -22,7 +22,7 @@ pub extern "C" fn latchbeacon_sysex8_words_needed(size: usize) -> usize
 pub extern "C" fn latchbeacon_sysex8_repack(words: &mut [u32], length: usize) -> NumberAnswer
     ensures { (result, words.new) ≡ leaving number_answer (repack sysex8 words.old length) }
 {
-    answers::repacked(splice::sysex8::repack(words, length))
+    answers::answer(splice::sysex8::repack(words, length))
 }
 
 // Replaces the payload bytes `from..to` by the bytes lent; the check's refusals, then Range, Room.
@@ -37,7 +37,7 @@ pub extern "C" fn latchbeacon_sysex8_splice(
     ensures { (result, words.new)
         ≡ leaving change_answer (splice sysex8 words.old length from to replacement.now) }
 {
-    answers::change(splice::sysex8::splice(words, length, from, to, replacement))
+    answers::answer(splice::sysex8::splice(words, length, from, to, replacement))
 }
 
 // Sets the payload, a splice of the whole; the check's refusals, then Room.
@@ -49,7 +49,7 @@ pub extern "C" fn latchbeacon_sysex8_set_payload(
 ) -> ChangeAnswer
     ensures { (result, words.new) ≡ leaving change_answer (set_payload sysex8 words.old length bytes.now) }
 {
-    answers::change(splice::sysex8::set_payload(words, length, bytes))
+    answers::answer(splice::sysex8::set_payload(words, length, bytes))
 }
 
 // Replaces all ranges of a list of edits at once: three numbers for each, from, to and replacement length, and all replacement bytes
@@ -64,7 +64,7 @@ pub extern "C" fn latchbeacon_sysex8_splice_all(
     ensures { (result, words.new)
         ≡ leaving change_answer (splice_all sysex8 words.old length numbers.now bytes.now) }
 {
-    answers::change(edit::splice_all(words, length, numbers, bytes))
+    answers::answer(edit::splice_all(words, length, numbers, bytes))
 }
 
 // Where octet `octet` of the words lent comes from, if all edits of a list are done so; refused as that is, then Range for an octet
@@ -79,5 +79,5 @@ pub extern "C" fn latchbeacon_sysex8_origin(
 ) -> OriginAnswer
     ensures { result ≡ origin_answer (origin sysex8 words.now length numbers.now bytes.now octet) }
 {
-    answers::origin(edit::origin(words, length, numbers, bytes, octet))
+    answers::answer(edit::origin(words, length, numbers, bytes, octet))
 }

@@ -15,5 +15,5 @@ pub extern "C" fn latchbeacon_bytes_to_sysex7(
 ) -> NumberAnswer
     ensures { (result, words.new) ≡ leaving number_answer (to_sysex7 bytes.now group words.old) }
 {
-    answers::written(stream::to_sysex7(bytes, group, words))
+    answers::answer(stream::to_sysex7(bytes, group, words))
 }

@@ -1,11 +1,15 @@
 -- Wrong answers that the promises shut out, each on a concrete input. Assumes nothing.
-use mathlib.Core.Path.{◌≡◌}
+use mathlib.Core.Path.{◌≡◌, ap, ◌∙◌}
 use Prim.Native.Nat.{ℕ}
 use mathlib.Core.Bool.{not}
 use lib.Dec.{T, eqb}
+use denote.RattleType.{RattleType}
+use denote.Param.Laws.{Laws}
+use mir.Syntax.{Dict}
+use Rattle.layout.specs.declared.Format.{Ghosts}
 use Rattle.refusal.specs.Tight.{Shuts}
 use Rattle.refusal.proofs.Tight.{differ}
-use Rattle.ump.specs.Packet.{size_of}
+use Rattle.ump.specs.Packet.{Shape, sysex8, sysex7, size_of}
 use Rattle.ump.specs.Packing.{status_for, packets_for}
 use Rattle.layout.proofs.type_of.Reads as type-of
 use Rattle.layout.proofs.group_of.Reads as group-of
@@ -19,10 +23,8 @@ use Rattle.layout.proofs.with_octet.Reads as with-octet
 use Rattle.layout.proofs.with_group.Reads as with-group
 use Rattle.layout.proofs.with_id.Reads as with-id
 use Rattle.layout.proofs.status_for.Reads as status-for
-use Rattle.layout.proofs.sysex8_size.Reads as sysex8-size
-use Rattle.layout.proofs.sysex7_size.Reads as sysex7-size
-use Rattle.layout.proofs.sysex8_packets.Reads as sysex8-packets
-use Rattle.layout.proofs.sysex7_packets.Reads as sysex7-packets
+use Rattle.layout.proofs.payload_size.Reads as payload-size
+use Rattle.layout.proofs.packets_for.Reads as packets-for
 
 wrong : {x y : ℕ} → T (not (eqb x y)) → x ≡ y → ⊥
 wrong t e = differ (λ v. v) t e
@@ -63,19 +65,9 @@ record ShutOut : Type 0 where
   with_id_other : Shuts with-id.Post (sample, (2, tt)) 0x5A3E0200
   status_for_alone : Shuts status-for.Post (1, (0, tt)) 1
   status_for_past : Shuts status-for.Post (0, (0xFFFFFFFFFFFFFFFF, tt)) 3
-  sysex8_size_count : Shuts sysex8-size.Post (14, tt) 14
-  sysex8_size_past : Shuts sysex8-size.Post (15, tt) 14
-  sysex7_size_less : Shuts sysex7-size.Post (6, tt) 5
-  sysex7_size_past : Shuts sysex7-size.Post (7, tt) 6
-  sysex8_packets_down : Shuts sysex8-packets.Post (14, tt) 1
-  sysex8_packets_more : Shuts sysex8-packets.Post (13, tt) 2
-  sysex8_packets_none : Shuts sysex8-packets.Post (0, tt) 0
-  sysex7_packets_down : Shuts sysex7-packets.Post (7, tt) 1
-  sysex7_packets_more : Shuts sysex7-packets.Post (6, tt) 2
-  sysex7_packets_none : Shuts sysex7-packets.Post (0, tt) 0
 
 shut_out : ShutOut
-unfolding status_for size_of packets_for
+unfolding status_for
 shut_out = record {
   type_of_low = λ κs s p. wrong tt p;
   type_of_octet = λ κs s p. wrong tt p;
@@ -101,14 +93,51 @@ shut_out = record {
   with_id_other = λ κs s p. wrong tt p;
   status_for_alone = λ κs s p. wrong tt p;
   status_for_past = λ κs s p. wrong tt p;
-  sysex8_size_count = λ κs s p. wrong tt p;
-  sysex8_size_past = λ κs s p. wrong tt p;
-  sysex7_size_less = λ κs s p. wrong tt p;
-  sysex7_size_past = λ κs s p. wrong tt p;
-  sysex8_packets_down = λ κs s p. wrong tt p;
-  sysex8_packets_more = λ κs s p. wrong tt p;
-  sysex8_packets_none = λ κs s p. wrong tt p;
-  sysex7_packets_down = λ κs s p. wrong tt p;
-  sysex7_packets_more = λ κs s p. wrong tt p;
-  sysex7_packets_none = λ κs s p. wrong tt p;
 }
+
+of_shape : (f : Shape → ℕ → ℕ) (n : ℕ) {shape known : Shape} {x : ℕ} → shape ≡ known → x ≡ f shape n → x ≡ f known n
+of_shape f n e p = p ∙ ap (λ (s : Shape). f s n) e
+
+-- ---- of each type of packets: a count counted wrong (count, less) or out of range taken (past), packets rounded down (down), one too many
+-- (more), none for no bytes (none)
+
+module _ (T : RattleType) (L : Laws T) (format : Ghosts T.Denot) (D : Dict) where
+  abbrev Size : ℕ → ℕ → Type 0
+  Size count wrong = Shuts (payload-size.Post T L format D) (count, tt) wrong
+
+  abbrev Packets : ℕ → ℕ → Type 0
+  Packets size wrong = Shuts (packets-for.Post T L format D) (size, tt) wrong
+
+  record ShutOut8 : Type 0 where
+    size_count : Size 14 14
+    size_past : Size 15 14
+    packets_down : Packets 14 1
+    packets_more : Packets 13 2
+    packets_none : Packets 0 0
+
+  record ShutOut7 : Type 0 where
+    size_less : Size 6 5
+    size_past : Size 7 6
+    packets_down : Packets 7 1
+    packets_more : Packets 6 2
+    packets_none : Packets 0 0
+
+  shut_out8 : format.shape ≡ sysex8 → ShutOut8
+  unfolding size_of packets_for
+  shut_out8 e = record {
+    size_count = λ κs s p. wrong tt (of_shape size_of 14 e p);
+    size_past = λ κs s p. wrong tt (of_shape size_of 15 e p);
+    packets_down = λ κs s p. wrong tt (of_shape packets_for 14 e p);
+    packets_more = λ κs s p. wrong tt (of_shape packets_for 13 e p);
+    packets_none = λ κs s p. wrong tt (of_shape packets_for 0 e p);
+  }
+
+  shut_out7 : format.shape ≡ sysex7 → ShutOut7
+  unfolding size_of packets_for
+  shut_out7 e = record {
+    size_less = λ κs s p. wrong tt (of_shape size_of 6 e p);
+    size_past = λ κs s p. wrong tt (of_shape size_of 7 e p);
+    packets_down = λ κs s p. wrong tt (of_shape packets_for 7 e p);
+    packets_more = λ κs s p. wrong tt (of_shape packets_for 6 e p);
+    packets_none = λ κs s p. wrong tt (of_shape packets_for 0 e p);
+  }

@@ -1,6 +1,14 @@
 -- Any two outcomes that a promise allows are equal. Assumes nothing.
 use mathlib.Core.Path.{sym, ◌∙◌}
+use denote.RattleType.{RattleType}
+use denote.Param.Laws.{Laws}
+use mir.Syntax.{Dict}
+use Rattle.layout.specs.declared.Format.{Ghosts}
 use Rattle.refusal.specs.Tight.{FixesResult}
+use Rattle.layout.proofs.payload_size.Kinds as payload-size-kinds
+use Rattle.layout.proofs.payload_size.Reads as payload-size
+use Rattle.layout.proofs.packets_for.Kinds as packets-for-kinds
+use Rattle.layout.proofs.packets_for.Reads as packets-for
 use Rattle.layout.proofs.type_of.Kinds as type-of-kinds
 use Rattle.layout.proofs.type_of.Reads as type-of
 use Rattle.layout.proofs.group_of.Kinds as group-of-kinds
@@ -25,14 +33,6 @@ use Rattle.layout.proofs.with_id.Kinds as with-id-kinds
 use Rattle.layout.proofs.with_id.Reads as with-id
 use Rattle.layout.proofs.status_for.Kinds as status-for-kinds
 use Rattle.layout.proofs.status_for.Reads as status-for
-use Rattle.layout.proofs.sysex8_size.Kinds as sysex8-size-kinds
-use Rattle.layout.proofs.sysex8_size.Reads as sysex8-size
-use Rattle.layout.proofs.sysex7_size.Kinds as sysex7-size-kinds
-use Rattle.layout.proofs.sysex7_size.Reads as sysex7-size
-use Rattle.layout.proofs.sysex8_packets.Kinds as sysex8-packets-kinds
-use Rattle.layout.proofs.sysex8_packets.Reads as sysex8-packets
-use Rattle.layout.proofs.sysex7_packets.Kinds as sysex7-packets-kinds
-use Rattle.layout.proofs.sysex7_packets.Reads as sysex7-packets
 
 type_of_unique : FixesResult 0 type-of-kinds.ps type-of-kinds.r type-of.Post
 type_of_unique κs a x y s t p q = p ∙ sym q
@@ -70,14 +70,10 @@ with_id_unique κs a x y s t p q = p ∙ sym q
 status_for_unique : FixesResult 0 status-for-kinds.ps status-for-kinds.r status-for.Post
 status_for_unique κs a x y s t p q = p ∙ sym q
 
-sysex8_size_unique : FixesResult 0 sysex8-size-kinds.ps sysex8-size-kinds.r sysex8-size.Post
-sysex8_size_unique κs a x y s t p q = p ∙ sym q
+-- of each type of packets
+module _ (T : RattleType) (L : Laws T) (format : Ghosts T.Denot) (D : Dict) where
+  payload_size_unique : FixesResult 1 (payload-size-kinds.ps T L) (payload-size-kinds.r T L) (payload-size.Post T L format D)
+  payload_size_unique κs a x y s t p q = p ∙ sym q
 
-sysex7_size_unique : FixesResult 0 sysex7-size-kinds.ps sysex7-size-kinds.r sysex7-size.Post
-sysex7_size_unique κs a x y s t p q = p ∙ sym q
-
-sysex8_packets_unique : FixesResult 0 sysex8-packets-kinds.ps sysex8-packets-kinds.r sysex8-packets.Post
-sysex8_packets_unique κs a x y s t p q = p ∙ sym q
-
-sysex7_packets_unique : FixesResult 0 sysex7-packets-kinds.ps sysex7-packets-kinds.r sysex7-packets.Post
-sysex7_packets_unique κs a x y s t p q = p ∙ sym q
+  packets_for_unique : FixesResult 1 (packets-for-kinds.ps T L) (packets-for-kinds.r T L) (packets-for.Post T L format D)
+  packets_for_unique κs a x y s t p q = p ∙ sym q

@@ -13,8 +13,7 @@ use Rattle.ump.specs.Word.{words_of}
 use Rattle.ump.specs.Packet.{sysex8}
 use Rattle.ump.specs.Check.{Summary, check, checked}
 use Rattle.listing.specs.Listing.{words_in, checked_in, listing, text_of, message_text, refusal_line}
-use Rattle.listing.specs.Steps.{Wrote, Passed, over, words_after, load, handed}
-use Rattle.listing.proofs.Texts.{wrote_front}
+use Rattle.listing.specs.Steps.{Passed, over, words_after, load, handed}
 
 -- ---- by the tests of the code
 
@@ -87,11 +86,6 @@ module _ (piece text : List ℕ) where
   pub handed_whole : length piece ≤ length text → handed piece text ≡ (gives (length piece), over piece text)
   unfolding handed
   handed_whole h = rw (le-ltb _ _ h)
-
-  pub handed_given : length piece ≤ length text → {text' : List ℕ} {size : ℕ} → Wrote text 0 text' size piece → (gives size, text') ≡ handed piece text
-  handed_given h {text'} {size} w =
-      let n : size ≡ length piece = omega (arith, w.far) in
-      rw (handed_whole h, n, wrote_front w refl)
 
 -- the text holds what the answer says
 pub handed-fits : (piece text text' : List ℕ) (size : ℕ) → (gives size, text') ≡ handed piece text → size ≤ length text'

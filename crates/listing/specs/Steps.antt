@@ -1,6 +1,6 @@
 -- What the steps of writing a listing answer.
 -- Assumes nothing.
-use Rattle.std.specs.Prelude.{◌≡◌, List, ◌++◌, ℕ, ◌+◌, ltb, length, take, drop}
+use Rattle.std.specs.Prelude.{◌≡◌, List, ◌++◌, ℕ, ltb, length, drop}
 use Rattle.refusal.specs.Answer.{Answer, gives, refused, pass, guard, writes}
 use Rattle.ump.specs.Packet.{sysex8}
 use Rattle.ump.specs.Check.{Summary, check}
@@ -8,11 +8,6 @@ use Rattle.ump.specs.Single.{Kind, complete, start, continue, end, unexpected_en
 use Rattle.packet.specs.Meaning.{kind_meaning}
 use Rattle.packet.specs.declared.sysex8.Packet.{Packet}
 use Rattle.listing.specs.Listing.{line, words_in, checked_in}
-
--- a piece was written into a text, which is otherwise as it was, and this is how far it goes
-pub record Wrote (before : List ℕ) (at : ℕ) (after : List ℕ) (to : ℕ) (piece : List ℕ) : Type 0 where
-  pub far : to ≡ at + length piece
-  pub text : after ≡ take at before ++ (piece ++ drop (at + length piece) before)
 
 -- the status of a kind; an unexpected end is an end
 abbrev pub status_of : Kind → ℕ

@@ -1,14 +1,11 @@
 // The body of program sx8list: the message on standard input is listed on standard output.
 #![tactic(auto)]
 
-use listing::Listed;
-use standard_input::Input;
 use std::io;
 
 // Writes the listing of the message in these bytes to standard output, at once. The error says why not all of it was written.
 fn write_listing(rt: &impl Print, bytes: &[u8], text: &mut [u8]) -> io::Result<()> {
-    let listed = listing::list(bytes, text);
-    let Listed::Text(size) = listed else {
+    let Ok(size) = listing::list(bytes, text) else {
         return Err(io::Error::other("no room for the listing"));
     };
     rt.write_all(&text[..size])
@@ -21,13 +18,12 @@ fn list_input(
     text: &mut [u8],
 ) -> io::Result<()> {
     let size = match standard_input::read_input(rt, bytes) {
-        Input::Bytes(size) => size,
-        Input::Failed(error) => return eprintln!(rt; "sx8list: read: {error}"),
+        Ok(size) => size,
+        Err(error) => return eprintln!(rt; "sx8list: read: {error}"),
     };
-    match write_listing(rt, &bytes[..size], text) {
-        Ok(()) => Ok(()),
-        Err(error) => eprintln!(rt; "sx8list: write: {error}"),
-    }
+    write_listing(rt, &bytes[..size], text).or_else(|error| eprintln!(rt;
+        "sx8list: write: {error}"
+    ))
 }
 
 // The program: room for one byte over 65,536, which is enough to refuse a longer input, and for the longest listing.

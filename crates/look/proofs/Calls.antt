@@ -5,7 +5,6 @@ use Prim.Native.Nat.{ℕ}
 use contract.Lifetimes.{Lfts}
 use borrow.Fn.Kinds.{Dens}
 use Rattle.refusal.specs.Answer.{gives}
-use Rattle.refusal.specs.Meaning.{byte_meaning}
 use Rattle.refusal.specs.Tight.{Called}
 use Rattle.message.proofs.sysex8.byte.Kinds as read-kinds
 use Rattle.message.proofs.sysex8.byte.Reads as read
@@ -20,6 +19,7 @@ use Rattle.look.proofs.list.byte.Kinds as byte-kinds
 use Rattle.look.proofs.list.byte.Reads as byte
 use Rattle.look.proofs.list.byte_of_message.Kinds as message-kinds
 use Rattle.look.proofs.list.byte_of_message.Reads as message
+use Rattle.refusal.specs.Meaning.{answer_of}
 
 -- ---- what the calls are given, the library's and the exported ones alike
 
@@ -51,14 +51,14 @@ Lends dump-at replacement_at dump from to replacement i at part =
 -- `byte` is called on these bytes, numbers and replacement bytes and this position
 abbrev pub Looks : Looker
 Looks dump numbers bytes i answer =
-    Called 3 byte-kinds.ps byte-kinds.r byte.Post (byte_given dump numbers bytes i) (λ κs said. byte_meaning said) (λ κs exit. Unit {0}) answer
+    Called 3 byte-kinds.ps byte-kinds.r byte.Post (byte_given dump numbers bytes i) (λ κs said. answer_of said) (λ κs exit. Unit {0}) answer
 
 -- `byte_of_message` is called on these words, this length, these numbers and bytes and this position
 abbrev pub LooksIn : MessageLooker
 LooksIn words len numbers bytes i answer =
-    Called 3 message-kinds.ps message-kinds.r message.Post (message_given words len numbers bytes i) (λ κs said. byte_meaning said) (λ κs exit. Unit {0}) answer
+    Called 3 message-kinds.ps message-kinds.r message.Post (message_given words len numbers bytes i) (λ κs said. answer_of said) (λ κs exit. Unit {0}) answer
 
 -- `message::sysex8::byte` is called on these words, this length and this index
 abbrev pub Reads : Reader
 Reads words len i answer =
-    Called 1 read-kinds.ps read-kinds.r read.Post (read_given words len i) (λ κs said. byte_meaning said) (λ κs exit. Unit {0}) answer
+    Called 1 read-kinds.ps read-kinds.r read.Post (read_given words len i) (λ κs said. answer_of said) (λ κs exit. Unit {0}) answer

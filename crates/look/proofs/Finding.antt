@@ -1,6 +1,7 @@
 -- `find` and `part_lent` case by case: one edit of a dump. Assumes nothing.
 use mathlib.Core.Path.{◌≡◌, sym, ap, ◌∙◌}
 use mathlib.Core.Bool.{Bool, true, false, cond, ◌||◌}
+use mathlib.Core.Logic.{◌⊎◌, inl, inr}
 use mathlib.Core.List.{List, [], ◌∷◌}
 use Prim.Native.Nat.{ℕ, zero, suc, ◌+◌, ◌-◌, ◌≤◌, ◌<◌}
 use native.Mathlib.Nat.{sub-zero, zero-sub, suc-sub-suc}
@@ -20,6 +21,10 @@ use Rattle.ump.proofs.Origins.{replaced_single}
 use Rattle.edit.specs.Growth.{Sound}
 use Rattle.edit.proofs.Laws.{sound_has}
 use Rattle.look.specs.Look.{some_run, find, edit_by, patch_by, shown, stands_at, part_lent}
+use Rattle.look.specs.declared.Found.{Found}
+use Rattle.look.specs.declared.Found.TheVariants as variant
+use Rattle.look.specs.declared.Part.{Part}
+use Rattle.look.specs.Meaning.{found_meaning}
 use Rattle.look.proofs.Right.{Right, right}
 
 -- ---- each return of the call is a case
@@ -155,6 +160,12 @@ module _ (dump : List ℕ) (from to : ℕ) (replacement : List ℕ) (i : ℕ) wh
           ends = omega (arith, w.inside.1);
           is = ap (λ (l : List ℕ). ((lent_at.0, start + lent_at.1), l)) (part_is start end replacement) ∙ lent_by dump_at lent_at q;
         }
+
+    -- the part of the dump that was found, before the edit or behind it
+    pub side_part : {stands : Found} {part : Part} → (stands ≡ variant.Before part) ⊎ (stands ≡ variant.Behind part)
+        → find (length dump) edit i ≡ gives (found_meaning stands)
+        → LentFrom dump_at dump part.start part.end (part_lent dump_at lent_at dump from to replacement i)
+    side_part side q = elim side [ inl e ↦ dump_part (rw e at q) | inr e ↦ dump_part (rw e at q) ]
 
     pub none_lent : {number place : ℕ} → find (length dump) edit i ≡ refused number place → (dump_at, []) ≡ part_lent dump_at lent_at dump from to replacement i
     none_lent q = lent_by dump_at lent_at q

@@ -1,13 +1,12 @@
 -- Each refusal of looking at an edited dump is one of the names. Assumes nothing.
+use Rattle.std.specs.Prelude.{Result, Ok, Err}
+use Rattle.refusal.specs.declared.Fault.{Fault}
 use mathlib.Core.Path.{◌≡◌, refl}
 use mathlib.Core.List.{List}
 use Prim.Native.Nat.{ℕ}
 use lib.ListN.{length}
 use Rattle.refusal.specs.Answer.{Answer}
 use Rattle.refusal.specs.Number.{Named, accepted, named}
-use Rattle.refusal.specs.Meaning.{byte_meaning}
-use Rattle.refusal.specs.declared.ByteRead.{ByteRead}
-use Rattle.refusal.specs.declared.ByteRead.TheVariants as byte-read
 use Rattle.refusal.specs.declared.Refusal.TheVariants.{Range, Overlap}
 use Rattle.refusal.proofs.Laws.{by_guard, by_both}
 use Rattle.ump.specs.Packet.{Shape}
@@ -18,6 +17,7 @@ use Rattle.ump.proofs.Named.{check_named}
 use Rattle.edit.specs.Listed.{list_check}
 use Rattle.look.specs.Look.{byte_of, byte_of_message}
 use Rattle.look.proofs.Nth.{nth_named}
+use Rattle.refusal.specs.Meaning.{answer_of}
 
 pub byte_named : (dump numbers bytes : List ℕ) (i : ℕ) → Named (byte_of dump numbers bytes i)
 unfolding byte_of list_check
@@ -37,10 +37,10 @@ module _ (shape : Shape) (words : List ℕ) (len : ℕ) where
 
 -- ---- each outcome whose refusals have names is the meaning of an answer
 
-abbrev pub said_of : {answer : Answer ℕ} → Named answer → ByteRead
-said_of (accepted {value}) = byte-read.Value value
-said_of (named r {place}) = byte-read.Refused (record { refusal = r; place = place })
+abbrev pub said_of : {answer : Answer ℕ} → Named answer → (Result ℕ Fault)
+said_of (accepted {value}) = Ok value
+said_of (named r {place}) = Err (record { refusal = r; place = place })
 
-pub said_meant : {answer : Answer ℕ} (h : Named answer) → byte_meaning (said_of h) ≡ answer
+pub said_meant : {answer : Answer ℕ} (h : Named answer) → answer_of (said_of h) ≡ answer
 said_meant accepted = refl
 said_meant (named r) = refl

@@ -1,5 +1,7 @@
 -- Any two outcomes that a promise allows are equal. Of a part lent that is where it stands and its bytes: the ghost name of a
 -- reference is not of the program. Assumes nothing.
+use Rattle.refusal.specs.declared.Fault.{Fault}
+use Rattle.std.specs.Prelude.{Result, Ok, Err}
 use mathlib.Core.Path.{◌≡◌, refl, sym, ap, ◌∙◌}
 use Prim.Native.Nat.{ℕ, zero, suc}
 use contract.Lifetimes.{Lfts}
@@ -7,7 +9,7 @@ use denote.Triple.Clauses.{AtExit}
 use borrow.Fn.Kinds.{Dens, res_t, ended_of}
 use Rattle.refusal.specs.Answer.{Answer, gives, refused}
 use Rattle.refusal.specs.Tight.{FixesResult}
-use Rattle.refusal.proofs.Laws.{fault_back, fault-back, byte_once}
+use Rattle.refusal.proofs.Laws.{fault_back, fault-back, answer_once}
 use Rattle.refusal.proofs.Tight.{once}
 use Rattle.ump.specs.Runs.{Run, of_dump, of_edit, past}
 use Rattle.ump.specs.Edits.{Edit}
@@ -31,20 +33,20 @@ use Rattle.look.proofs.list.byte_of_message.Reads as message
 abbrev part : ℕ → ℕ → Part
 part start end = record { start = start; end = end }
 
-abbrev pub found_back : Answer Run → Found
-found_back (gives (of_dump zero start end)) = found.Before (part start end)
-found_back (gives (of_dump (suc k) start end)) = found.Behind (part start end)
-found_back (gives (of_edit k start end)) = found.Within (part start end)
-found_back (gives past) = found.Before (part 0 0)
-found_back (refused number place) = found.Refused (fault_back number place)
+abbrev pub found_back : Answer Run → Result Found Fault
+found_back (gives (of_dump zero start end)) = Ok (found.Before (part start end))
+found_back (gives (of_dump (suc k) start end)) = Ok (found.Behind (part start end))
+found_back (gives (of_edit k start end)) = Ok (found.Within (part start end))
+found_back (gives past) = Ok (found.Before (part 0 0))
+found_back (refused number place) = Err (fault_back number place)
 
-found_back_lem : (x : Found) → found_back (run_meaning x) ≡ x
-found_back_lem (found.Before part) = refl
-found_back_lem (found.Within part) = refl
-found_back_lem (found.Behind part) = refl
-found_back_lem (found.Refused fault) = ap found.Refused (fault-back fault)
+found_back_lem : (x : Result Found Fault) → found_back (run_meaning x) ≡ x
+found_back_lem (Ok (found.Before part)) = refl
+found_back_lem (Ok (found.Within part)) = refl
+found_back_lem (Ok (found.Behind part)) = refl
+found_back_lem (Err fault) = ap Err (fault-back fault)
 
-pub found_once : (x y : Found) → run_meaning x ≡ run_meaning y → x ≡ y
+pub found_once : (x y : Result Found Fault) → run_meaning x ≡ run_meaning y → x ≡ y
 found_once = once run_meaning found_back found_back_lem
 
 -- and each answer of the definition is the meaning of one
@@ -61,7 +63,7 @@ run_unique : (κs : Lfts 1) (a : Dens κs run-kinds.ps) (x y : (res_t run-kinds.
 run_unique κs a x y s t p q = (ap (λ o. o.0) (p ∙ sym q), ap (λ o. o.1) (p ∙ sym q))
 
 byte_unique : FixesResult 3 byte-kinds.ps byte-kinds.r byte.Post
-byte_unique κs a x y s t p q = byte_once x y (p ∙ sym q)
+byte_unique κs a x y s t p q = answer_once x y (p ∙ sym q)
 
 message_unique : FixesResult 3 message-kinds.ps message-kinds.r message.Post
-message_unique κs a x y s t p q = byte_once x y (p ∙ sym q)
+message_unique κs a x y s t p q = answer_once x y (p ∙ sym q)

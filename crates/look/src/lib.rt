@@ -3,7 +3,6 @@
 #![tactic(auto)]
 
 ghost use Rattle.std.specs.Prelude.{◌≡◌};
-ghost use Rattle.refusal.specs.Answer.{refused};
 ghost use Rattle.edit.specs.Meaning.{edit_meaning};
 ghost use Rattle.look.specs.Look.{find, part_lent};
 ghost use Rattle.look.specs.Meaning.{run_meaning};
@@ -15,64 +14,50 @@ mod list;
 
 pub use list::{byte, byte_of_message};
 
-// The bytes start..end of a source.
-#[derive(Drop)]
+// The bytes start..end of a source. Not std's Range: theorems (Unique, ShutOut) name this type.
+#[derive(Clone, Copy, Debug, PartialEq, Eq)]
 pub struct Part {
     pub start: usize,
     pub end: usize,
 }
 
 // Where a run of bytes stands: in the dump before the edit, in the replacement, in the dump behind the edit.
-#[derive(Drop)]
+#[derive(Clone, Copy, Debug, PartialEq, Eq)]
 pub enum Found {
     Before(Part),
     Within(Part),
     Behind(Part),
-    Refused(Fault),
-}
-
-// A position or an edit out of range.
-fn out_of_range() -> Found
-    ensures { run_meaning result ≡ refused 13 0 }
-{
-    Found::Refused(Fault {
-        refusal: Refusal::Range,
-        place: 0,
-    })
 }
 
 // The longest run of bytes that starts at `position` of a dump of `size` bytes with one edit: its source, start and end. Range for the
 // edit, then for the position.
-pub fn find(size: usize, edit: Edit, position: usize) -> Found
+pub fn find(size: usize, edit: Edit, position: usize) -> Result<Found, Fault>
     ensures { run_meaning result ≡ find size (edit_meaning edit) position }
 {
-    if edit::is_bad(edit) {
-        return out_of_range();
-    }
-    if edit.to > size {
-        return out_of_range();
+    if edit::is_bad(edit) || edit.to > size {
+        return Err(Refusal::Range.into());
     }
     if position < edit.from {
-        return Found::Before(Part {
+        return Ok(Found::Before(Part {
             start: position,
             end: edit.from,
-        });
+        }));
     }
     let within = position - edit.from;
     if within < edit.length {
-        return Found::Within(Part {
+        return Ok(Found::Within(Part {
             start: within,
             end: edit.length,
-        });
+        }));
     }
     let behind = within - edit.length;
     if behind < size - edit.to {
-        return Found::Behind(Part {
+        return Ok(Found::Behind(Part {
             start: edit.to + behind,
             end: size,
-        });
+        }));
     }
-    out_of_range()
+    Err(Refusal::Range.into())
 }
 
 // That run itself: a part of the payload or of the replacement, lent and not copied. It is empty exactly if `find` refuses.
@@ -91,23 +76,11 @@ pub fn run<'a>(
         to,
         length: replacement.len(),
     };
-    let found = find(payload.len(), edit, position);
+    let Ok(found) = find(payload.len(), edit, position) else {
+        return &payload[..0];
+    };
     match found {
-        Found::Before(part) => {
-            let start = part.start;
-            let end = part.end;
-            &payload[start..end]
-        }
-        Found::Within(part) => {
-            let start = part.start;
-            let end = part.end;
-            &replacement[start..end]
-        }
-        Found::Behind(part) => {
-            let start = part.start;
-            let end = part.end;
-            &payload[start..end]
-        }
-        Found::Refused(_fault) => &payload[..0],
+        Found::Before(part) | Found::Behind(part) => &payload[part.start..part.end],
+        Found::Within(part) => &replacement[part.start..part.end],
     }
 }

@@ -1,7 +1,7 @@
 -- One step of the walk to a byte, by the place where a dump stands. Assumes nothing.
+use Rattle.std.specs.Prelude.{Some}
 use mathlib.Core.Path.{◌≡◌, sym, ap, ◌∙◌}
 use mathlib.Core.Bool.{true, false}
-use mathlib.Core.Option.{some}
 use mathlib.Core.List.{List}
 use Prim.Native.Nat.{ℕ, suc, ◌+◌, ◌-◌, ◌≤◌}
 use native.Mathlib.Omega.{arith}
@@ -31,7 +31,7 @@ looks_inside {store} {n = n} {left} l =
     omega (arith, l.inside, restored_size store (sound_good store l.good).formed left n l.payload l.is)
 
 module _ (store : List ℕ) (n left : ℕ) (h : left ≡ 0 → ⊥) (at : ℕ) (d : is_dump (get_or store at 0) ≡ true)
-    (q : some (dump_at store at) ≡ held (dumps_of store) n) where
+    (q : Some (dump_at store at) ≡ held (dumps_of store) n) where
   pub located_whole : is_whole (get_or store at 0) ≡ true → {position value next : ℕ} → next ≡ next_at store at
       → value ≡ get_or (data_in (records_from store next)) position 0 → Located store n left position value
   unfolding roomed
@@ -49,7 +49,7 @@ module _ (store : List ℕ) (n left : ℕ) (h : left ≡ 0 → ⊥) (at : ℕ) (
 pub record DeltaHere (store : List ℕ) (n left at : ℕ) : Type 0 where
   pub some_left : left ≡ 0 → ⊥
   pub begins : DumpBegins store at
-  pub is : some (dump_at store at) ≡ held (dumps_of store) n
+  pub is : Some (dump_at store at) ≡ held (dumps_of store) n
   pub other : is_whole (get_or store at 0) ≡ false
 
 module _ {store : List ℕ} {n left at : ℕ} (d : DeltaHere store n left at) where
@@ -59,8 +59,8 @@ module _ {store : List ℕ} {n left at : ℕ} (d : DeltaHere store n left at) wh
   abbrev patches : List Patch
   patches = patches_in (records_from store (next_at store at))
 
-  is_held : held (dumps_of store) n ≡ some (delta (pair_at (record_at store at).body 0) base patches)
-  is_held = sym d.is ∙ ap (λ (x : Dump). some x) (delta_dump store at d.begins.1 d.other)
+  is_held : held (dumps_of store) n ≡ Some (delta (pair_at (record_at store at).body 0) base patches)
+  is_held = sym d.is ∙ ap (λ (x : Dump). Some x) (delta_dump store at d.begins.1 d.other)
 
   pub delta_ordered : {places : List ℕ} {position : ℕ} → Looks store places n left position → Ordered 0 patches
   delta_ordered l = held_ordered store (sound_good store l.good).formed n is_held

@@ -6,7 +6,7 @@ use lib.ListN.{length}
 use Rattle.refusal.specs.Answer.{Answer, gives, refused}
 use Rattle.refusal.specs.Number.{Named, named}
 use Rattle.refusal.specs.Tight.{FixesResult}
-use Rattle.refusal.proofs.Laws.{byte_once, by_both}
+use Rattle.refusal.proofs.Laws.{by_both, answer_once}
 use Rattle.store.specs.Store.{dumps_of}
 use Rattle.store.proofs.Checks.{sound_named}
 use Rattle.chain.specs.Restore.{Payload, unlimited}
@@ -17,7 +17,7 @@ use Rattle.look_store.proofs.byte.Kinds as byte-kinds
 use Rattle.look_store.proofs.byte.Reads as byte
 
 byte_unique : FixesResult 1 byte-kinds.ps byte-kinds.r byte.Post
-byte_unique κs a x y s t p q = byte_once x y (p ∙ sym q)
+byte_unique κs a x y s t p q = answer_once x y (p ∙ sym q)
 
 -- ---- each refusal is one of the names
 

@@ -6,17 +6,18 @@ ghost use Rattle.look_store.specs.Looking.{ComesFrom, Looks, Located};
 
 use chain::edits::skip_data;
 use chain::measuring::measure_data;
-use store::finding::{Found, find};
+use store::finding::find;
 use store::record::{body_here, byte, is_data, is_edit, is_whole, next, number_at};
 
 // Where a byte of a delta comes from: this byte of its base, or an edit, and then its value.
-#[derive(Drop)]
+#[derive(Clone, Copy, Debug, PartialEq, Eq)]
 pub(crate) enum Source {
     Base(usize),
     Edit(u8),
 }
 
 // Byte `index` of the data that begins at a place; zero past the data.
+// A `while`: the step is a record's length, which its kind says.
 fn data_byte(store: &[u8], at: usize, index: usize) -> u8
     ensures { result ≡ get_or (data_in (records_from store.now at)) index 0 }
 {
@@ -35,6 +36,7 @@ fn data_byte(store: &[u8], at: usize, index: usize) -> u8
 
 // Where byte `position` of a delta comes from, whose edits begin at a place. One walk over the edits: `left` is the position behind those
 // passed, the last of which ends at `end`.
+// A `while`: the step is a record's length, which its kind says.
 fn source_of(store: &[u8], at: usize, position: usize) -> Source
     requires { (position ≤ length store.now) × Ordered 0 (patches_in (records_from store.now at)) }
     ensures { ComesFrom (patches_in (records_from store.now at)) position result }
@@ -76,20 +78,15 @@ pub(crate) fn locate(
     if left == 0 {
         return 0;
     }
-    let found = find(store, places, number);
-    match found {
-        Found::Nothing => 0,
-        Found::At(at) => {
-            if is_whole(byte(store, at)) {
-                return data_byte(store, next(store, at), position);
-            }
-            let source = source_of(store, next(store, at), position);
-            match source {
-                Source::Edit(value) => value,
-                Source::Base(index) => {
-                    locate(store, places, number_at(store, at + 3), left - 1, index)
-                }
-            }
-        }
+    let Some(at) = find(store, places, number) else {
+        return 0;
+    };
+    let place = next(store, at);
+    if is_whole(byte(store, at)) {
+        return data_byte(store, place, position);
+    }
+    match source_of(store, place, position) {
+        Source::Edit(value) => value,
+        Source::Base(index) => locate(store, places, number_at(store, at + 3), left - 1, index),
     }
 }

@@ -3,14 +3,14 @@
 #![tactic(auto)]
 
 use std::io;
+use stores::samples::report_all;
 
 mod marking;
 
 // Writes a line for each sample.
 fn main(rt: HostRuntime) -> io::Result<()> {
-    marking::report_marked(&rt)?;
-    marking::report_found(&rt)?;
-    marking::report_missing(&rt)?;
-    marking::report_refused(&rt)?;
-    Ok(())
+    report_all(&rt, &marking::MARKED)?;
+    report_all(&rt, &marking::FOUND)?;
+    report_all(&rt, &marking::MISSING)?;
+    report_all(&rt, &marking::REFUSED)
 }

@@ -1,31 +1,26 @@
 -- Bytes that are taken piece after piece. Assumes nothing.
 use mathlib.Core.Path.{◌≡◌, refl, sym, ap, ◌∙◌}
 use mathlib.Core.List.{List}
-use Prim.Native.Nat.{ℕ, ◌+◌, ◌*◌, ◌/◌, ◌^◌, ◌≤◌, ◌<◌}
+use Prim.Native.Nat.{ℕ, ◌+◌, ◌*◌, ◌/◌, ◌≤◌}
 use native.Mathlib.Nat.{add-zero}
 use native.Mathlib.Omega.{arith}
 use lib.ListN.{length, take, drop}
-use Rattle.ump.specs.Word.{Below}
 use Rattle.ump.proofs.First.{Side, under, over, side}
 use Rattle.flow.specs.Digits.{val}
-use Rattle.flow.proofs.Flowing.{flow_padded, flow_step}
-use Rattle.merge.specs.Pieces.{taken, Padded, Reaches, Appends, Flows, Runs, Goes}
-use Rattle.merge.specs.declared.pending.Pending.{Pending}
-
--- ---- what waits is padded
-
-pub flows_padded : {w bytes us : List ℕ} {head : ℕ} {p : Pending} → Flows w bytes head p us → Below 256 bytes → p.high < 2 ^ 40 → Padded p
-flows_padded f below fits = record { few = f.few; fits = fits; zeros = (flow_padded f below).0 }
+use Rattle.flow.proofs.Flowing.{flow_step}
+use Rattle.merge.specs.Pieces.{taken, Reaches, Appends, Runs, Goes}
+use Rattle.merge.proofs.Sums.{flows_padded}
+use Rattle.merge.specs.declared.held.Pending.{Pending}
 
 -- ---- pieces that follow each other
 
 module _ {C : List ℕ → List ℕ → Type 0} {ws us : List ℕ} {head s : ℕ} {p r : Pending} (g : Goes C ws us head p s r) where
   -- for less
   pub goes_by : {D : List ℕ → List ℕ → Type 0} → ((w bytes : List ℕ) → D w bytes → C w bytes) → Goes D ws us head p s r
-  goes_by h = record { long = g.long; more = g.more; fits = g.fits; flows = λ w b f below l d. g.flows w b f below l (h w b d) }
+  goes_by h = record { long = g.long; more = g.more; flows = λ w b f below l d. g.flows w b f below l (h w b d) }
 
-pub goes_none : {C : List ℕ → List ℕ → Type 0} {ws : List ℕ} {head : ℕ} {p : Pending} → p.high < 2 ^ 40 → Goes C ws ws head p 0 p
-goes_none fits = record { long = refl; more = sym (add-zero _); fits = fits; flows = λ w b f below l c. f }
+pub goes_none : {C : List ℕ → List ℕ → Type 0} {ws : List ℕ} {head : ℕ} {p : Pending} → Goes C ws ws head p 0 p
+goes_none = record { long = refl; more = sym (add-zero _); flows = λ w b f below l c. f }
 
 -- some more, and then some more of the same
 pub goes_on : {C D : List ℕ → List ℕ → Type 0} {ws us vs : List ℕ} {head s t : ℕ} {p r q : Pending} → Goes C ws us head p s r → Goes D us vs head r t q
@@ -33,7 +28,6 @@ pub goes_on : {C D : List ℕ → List ℕ → Type 0} {ws us vs : List ℕ} {he
 goes_on g h = record {
   long = h.long ∙ g.long;
   more = omega (arith, g.more, h.more);
-  fits = h.fits;
   flows = λ w b f below l c. h.flows w b (g.flows w b f below (omega arith) c.0) below (omega (arith, g.more)) c.1;
 }
 
@@ -47,7 +41,6 @@ module _ {ws us : List ℕ} {head n s : ℕ} {p r : Pending} (a : Appends ws us 
   appends_goes most = record {
     long = (long_and_more (side (p.count + s) 13)).0;
     more = (long_and_more (side (p.count + s) 13)).1;
-    fits = a.small;
     flows = λ w b f below l is. (flow_step f below a.appended most l is).0;
   }
 
@@ -56,7 +49,7 @@ module _ {ws us : List ℕ} {head n s : ℕ} {p r : Pending} (a : Appends ws us 
 -- the first of it fits
 pub runs_reaches : {C : List ℕ → List ℕ → Type 0} {ws : List ℕ} {head n : ℕ} {p : Pending} (s : Runs C ws head p n) (t : ℕ) → t ≤ n → Reaches (length ws) head p t
 runs_reaches {p = p} s t le = record {
-  padded = flows_padded s.flows s.below s.fits;
+  padded = flows_padded s.flows s.below;
   fits = less (taken p) t _ _ le s.room;
   small = s.small;
   free = s.free;
@@ -75,7 +68,6 @@ runs_rest {n = n} {a = a} {p = p} s g d e t le = record {
   below = s.below;
   enough = omega (arith, s.enough, g.more);
   comes = e;
-  fits = g.fits;
   room = rw (g.long, g.more) (less (taken p) a t n _ le s.room);
   small = rw g.long s.small;
   free = s.free;

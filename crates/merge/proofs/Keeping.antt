@@ -15,7 +15,7 @@ use Rattle.flow.specs.Flowing.{flow_word, Flow}
 use Rattle.flow.proofs.Digits.{val_nil, val-take}
 use Rattle.merge.specs.Thirteens.{body, front_of, middle_of}
 use Rattle.merge.specs.Pieces.{taken, Flows, Kept}
-use Rattle.merge.specs.declared.pending.Pending.{Pending}
+use Rattle.merge.specs.declared.held.Pending.{Pending}
 use Rattle.merge.proofs.Bodies.{below_body, length-body, body_agree}
 use Rattle.merge.proofs.Parts.{front_part, front_zero, middle_part}
 

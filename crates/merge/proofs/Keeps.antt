@@ -1,13 +1,15 @@
 -- `keep` and `give`, piece by piece. Assumes nothing.
 use mathlib.Core.Path.{◌≡◌, sym, ap, ◌∙◌}
-use mathlib.Core.List.{List}
-use Prim.Native.Nat.{ℕ, ◌+◌, ◌-◌, ◌*◌, ◌^◌, ◌≤◌, ◌<◌}
+use mathlib.Core.List.{List, ◌++◌}
+use Prim.Native.Nat.{ℕ, ◌+◌, ◌-◌, ◌*◌, ◌≤◌, ◌<◌}
 use native.Mathlib.Omega.{arith}
-use lib.ListN.{length, take, drop}
+use lib.ListN.{length, take, drop, length-append, length-take, length-drop}
+use lib.Seq.{drop-drop, take-append_seam, drop-append_seam}
+use Rattle.ump.proofs.Fronts.{drop-take, part_of_front}
 use Rattle.flow.specs.Digits.{val}
 use Rattle.merge.specs.Thirteens.{body, front_of, middle_of}
 use Rattle.merge.specs.Pieces.{taken, Reaches, Appends, Runs, Goes, Given, Kept}
-use Rattle.merge.specs.declared.pending.Pending.{Pending}
+use Rattle.merge.specs.declared.held.Pending.{Pending}
 use Rattle.merge.proofs.Goings.{appends_goes, goes_by, goes_none, runs_reaches, runs_rest}
 use Rattle.merge.proofs.Keeping.{slice_alike, Parted, kept_middle, kept_run, kept_tail}
 
@@ -16,10 +18,10 @@ use Rattle.merge.proofs.Keeping.{slice_alike, Parted, kept_middle, kept_run, kep
 abbrev pub Gave : Pending → ℕ → List ℕ → List ℕ → List ℕ → ℕ → Pending → ℕ → Type 0
 Gave p from lent ws us head r at = Goes (Given (taken p) from (at - from) lent) ws us head p (at - from) r
 
-pub gave_none : (p : Pending) (from : ℕ) (lent ws : List ℕ) (head : ℕ) → p.high < 2 ^ 40 → Gave p from lent ws ws head p from
-gave_none p from lent ws head fits =
+pub gave_none : (p : Pending) (from : ℕ) (lent ws : List ℕ) (head : ℕ) → Gave p from lent ws ws head p from
+gave_none p from lent ws head =
     let z : 0 ≡ from - from = omega arith in
-    rw (← z) (goes_none fits)
+    rw (← z) goes_none
 
 module _ {p r : Pending} {at head : ℕ} {ws us : List ℕ} (from : ℕ) (lent : List ℕ) (g : Gave p from lent ws us head r at) (low : from ≤ at) where
   pub gave_more : {us' : List ℕ} {next : Pending} (x s : ℕ) → s ≤ 13 → x ≡ val 13 (take s (drop at lent)) → Appends us us' head r x s next → Gave p from lent ws us' head next (at + s)
@@ -29,7 +31,6 @@ module _ {p r : Pending} {at head : ℕ} {ws us : List ℕ} (from : ℕ) (lent :
       record {
         long = h.long ∙ g.long;
         more = omega (arith, h.more, g.more);
-        fits = h.fits;
         flows = λ w b f below l c.
             let all : take ((at - from) + s) (drop (taken p) b) ≡ take ((at - from) + s) (drop from lent) = rw e at c in
             let there : from + (at - from) ≡ at = omega arith in
@@ -46,6 +47,37 @@ module _ {p r : Pending} {at head : ℕ} {ws us : List ℕ} (from : ℕ) (lent :
       let zeros : (k : ℕ) → k + 0 ≡ k = λ k. omega arith in
       rw (zeros (taken p), zeros from) at (slice_alike (taken p) from (to - from) 0 (at - from) n.bytes lent n.comes (omega arith)) in
       runs_reaches (runs_rest {E = Given (taken p) from (at - from) lent} n g part part s (omega arith)) s (omega arith)
+
+-- lent bytes from..to, of which these are left
+pub record Left (lent : List ℕ) (from to : ℕ) (rest : List ℕ) : Type 0 where
+  pub ahead : from ≤ to
+  pub inside : length rest ≤ to - from
+  pub back : rest ≡ drop (to - length rest) (take to lent)
+
+pub left_all : (lent : List ℕ) (from to : ℕ) → from ≤ to → to ≤ length lent → Left lent from to (take (to - from) (drop from lent))
+left_all lent from to h l =
+    let n : length (take (to - from) (drop from lent)) ≡ to - from = simp (length-take, length-drop) (omega arith) in
+    let e : to - (to - from) ≡ from = omega arith in
+    record { ahead = h; inside = omega (arith, n); back = rw (n, e) (sym (drop-take from to lent)) }
+
+module _ {lent : List ℕ} {from to : ℕ} {left : List ℕ} (l : Left lent from to left) (piece rest : List ℕ) (e : left ≡ piece ++ rest) where
+  long : length left ≡ length piece + length rest
+  long = ap length e ∙ length-append piece rest
+
+  pub left_piece : piece ≡ take (length piece) (drop (to - length left) lent)
+  left_piece =
+      sym (take-append_seam piece rest)
+      ∙ ap (take (length piece)) (sym e ∙ l.back)
+      ∙ part_of_front (to - length left) (length piece) to lent (omega (arith, long, l.inside, l.ahead))
+
+  pub left_rest : Left lent from to rest
+  left_rest =
+      let n : to - length left + length piece ≡ to - length rest = omega (arith, long, l.inside, l.ahead) in
+      record {
+        ahead = l.ahead;
+        inside = omega (arith, long, l.inside);
+        back = sym (drop-append_seam piece rest) ∙ ap (drop (length piece)) (sym e ∙ l.back) ∙ drop-drop (length piece) (to - length left) (take to lent) ∙ rw n;
+      }
 
 -- ---- bytes that are kept
 
@@ -83,7 +115,6 @@ keep_goes {at = at} {to = to} {byte = byte} {some = some} {first = first} {last 
     record {
       long = three.long ∙ g.long ∙ one.long;
       more = omega (arith, one.more, g.more, three.more, n.sum);
-      fits = three.fits;
       flows = λ w b f below l k.
           let f1 = one.flows w b f below (omega (arith, n.sum)) (x-is ∙ kept_middle k byte some n.byte_is n.some_is le) in
           let f2 = g.flows w b f1 below (omega (arith, one.more, n.sum)) (rw (← one.more) at (kept_run k n)) in

@@ -2,7 +2,7 @@
 use mathlib.Core.Path.{◌≡◌, refl, sym, ap, ◌∙◌}
 use mathlib.Core.Bool.{Bool}
 use mathlib.Core.List.{List, ◌∷◌}
-use Prim.Native.Nat.{ℕ, ◌+◌, ◌-◌, ◌*◌, ◌/◌, ◌%◌, ◌^◌, ◌≤◌, ◌<◌}
+use Prim.Native.Nat.{ℕ, ◌+◌, ◌-◌, ◌*◌, ◌/◌, ◌%◌, ◌≤◌, ◌<◌}
 use native.Mathlib.Omega.{arith}
 use lib.ListN.{length, get_or, take, drop}
 use Rattle.ump.specs.Limits.{most_words, most_bytes}
@@ -21,8 +21,8 @@ use Rattle.merge.specs.Thirteens.{number, body, front_of}
 use Rattle.merge.specs.Pieces.{waiting, taken, Flows, Runs, Goes, Given, Kept, Stands, Moved, Flushed}
 use Rattle.merge.specs.declared.merging.Step as code
 use Rattle.merge.specs.Pass.{Step, step_meaning, step_of, merged, begin_of, Turns, Merges, Steady}
-use Rattle.merge.specs.declared.thirteen.Thirteen.{Thirteen}
-use Rattle.merge.specs.declared.pending.Pending.{Pending}
+use Rattle.merge.specs.declared.held.Thirteen.{Thirteen}
+use Rattle.merge.specs.declared.held.Pending.{Pending}
 use Rattle.merge.proofs.Bodies.{below_body, body-fits, body_agree, body_of_number, body_injective}
 use Rattle.merge.proofs.Parts.{front_part}
 use Rattle.merge.proofs.Keeping.{slice_alike}
@@ -77,8 +77,6 @@ pub record Pass (w : List ℕ) (head size total lag : ℕ) (numbers bytes : List
   pub small : length w ≤ most_words
   pub free : head ≤ 4294967040
   pub flows : Flows w (merged shrunk grow 0 (edits_of numbers) source bytes) head flow words
-  pub fits : flow.high < 2 ^ 40
-  pub in_hand : hand.high < 2 ^ 40
   pub held : 0 < at % 13 → number hand ≡ val 13 (body w (at / 13 + lag))
   pub turns : Turns shrunk grow size lag total (length bytes) end at (taken flow) start (rest numbers index)
   pub is : drop (taken flow) (merged shrunk grow 0 (edits_of numbers) source bytes) ≡ merged shrunk grow end (rest numbers index) (drop at source) (drop start bytes)
@@ -135,7 +133,6 @@ module _ {w : List ℕ} {head size total lag : ℕ} {numbers bytes : List ℕ} {
       below = p.below;
       enough = rw p.long fits;
       comes = kept;
-      fits = p.fits;
       room = rw p.flows.long (room_number (taken flow) (to - at) total (length w) fits p.room);
       small = rw p.flows.long p.small;
       free = p.free;
@@ -240,16 +237,15 @@ module _ {w : List ℕ} {head size total lag : ℕ} {numbers bytes : List ℕ} {
               below = p.below;
               enough = omega (arith, p.long, edit_inside.written, g.more);
               comes = edit_given;
-              fits = g.fits;
               room = rw long (room_number (taken one) (start + s.put - start) total (length w) (omega (arith, edit_inside.written, g.more)) p.room);
               small = rw long p.small;
               free = p.free;
             }
 
         pub edit_next : {vs : List ℕ} {two : Pending} (coming : Thirteen) → Goes (Given (taken one) start (start + s.put - start) bytes) us vs head one (start + s.put - start) two
-            → Steady words (number hand) at (at + s.kept + s.out) lag (number coming) → coming.high < 2 ^ 40
+            → Steady words (number hand) at (at + s.kept + s.out) lag (number coming)
             → Pass w head size total lag numbers bytes shrunk grow source vs (at + s.kept + s.out) two coming (edit_in numbers index).to (start + (edit_in numbers index).length) (index + 1)
-        edit_next {two = two} coming h steady fits =
+        edit_next {two = two} coming h steady =
             let m : taken flow + s.kept + s.put ≡ taken two = omega (arith, g.more, h.more) in
             record {
               first = p.first;
@@ -263,8 +259,6 @@ module _ {w : List ℕ} {head size total lag : ℕ} {numbers bytes : List ℕ} {
               small = p.small;
               free = p.free;
               flows = h.flows w target flows_one p.below (omega (arith, p.long, edit_inside.written, g.more)) edit_given;
-              fits = h.fits;
-              in_hand = fits;
               held = pass_hand (at + s.kept + s.out) (number coming) (omega arith) edit_inside.read steady;
               turns = rw (kept_is, out_is, put_is', m) at now.on;
               is = rw (kept_is, out_is, put_is', m) at (turn_on now source bytes target p.sized refl same);
@@ -342,9 +336,9 @@ module _ {ws : List ℕ} {head size total : ℕ} {numbers bytes : List ℕ} {shr
         let same : take c (drop (13 * q) new) ≡ take c (drop (13 * q) source) = rw zeros at (slice_alike 0 0 b (13 * q) c new source begin_front (omega arith)) in
         waits ∙ front_part (body ws q) c (below_body ws q) (omega arith) ∙ ap (val 13) (part ∙ sym same)
 
-    pub pass_begins : (hand : Thirteen) → flow.count ≡ b % 13 → flow.packet ≡ b / 13 → flow.high < 2 ^ 40 → lag ≡ packets_for sysex8 total - packets_for sysex8 size → Below 256 bytes → hand.high < 2 ^ 40
+    pub pass_begins : (hand : Thirteen) → flow.count ≡ b % 13 → flow.packet ≡ b / 13 → lag ≡ packets_for sysex8 total - packets_for sysex8 size → Below 256 bytes
         → (0 < b % 13 → number hand ≡ val 13 (body us (b / 13 + lag))) → Pass us head size total lag numbers bytes shrunk grow source us b flow hand b 0 0
-    pass_begins hand count packet fits lag-is below in_hand held =
+    pass_begins hand count packet lag-is below held =
         let e : taken flow ≡ b = omega (arith, count, packet) in
         record {
           first = b / 13;
@@ -358,8 +352,6 @@ module _ {ws : List ℕ} {head size total : ℕ} {numbers bytes : List ℕ} {shr
           small = rw moved.long m.small;
           free = m.free;
           flows = rw (count, packet) (record { long = refl; few = omega arith; done = front_words; rest = λ k l. refl; waits = front_waits });
-          fits = fits;
-          in_hand = in_hand;
           held = held;
           turns = rw (e, lag-is, ← rest_all numbers) m.turns;
           is = rw (e, ← rest_all numbers) (drop_begin shrunk grow source bytes size numbers (omega (arith, m.sized, begin_inside)));
@@ -370,11 +362,11 @@ module _ {ws : List ℕ} {head size total : ℕ} {numbers bytes : List ℕ} {shr
 
   -- by the numbers that the code has of them
   pub pass_starts : {us : List ℕ} {lag : ℕ} (at held : ℕ) → at ≡ b → held ≡ packets_for sysex8 size → Moved ws head (at / 13) held lag us → (flow : Pending) → waiting flow ≡ front_of (val 13 (body ws (at / 13))) (at % 13)
-      → (hand : Thirteen) → flow.count ≡ at % 13 → flow.packet ≡ at / 13 → flow.high < 2 ^ 40 → lag ≡ packets_for sysex8 total - packets_for sysex8 size → Below 256 bytes → hand.high < 2 ^ 40
+      → (hand : Thirteen) → flow.count ≡ at % 13 → flow.packet ≡ at / 13 → lag ≡ packets_for sysex8 total - packets_for sysex8 size → Below 256 bytes
       → (0 < at % 13 → number hand ≡ val 13 (body us (at / 13 + lag))) → Pass us head size total lag numbers bytes shrunk grow source us at flow hand at 0 0
-  pass_starts at held at-is held_is moved flow waits hand count packet fits lag-is below in_hand held-hand =
+  pass_starts at held at-is held_is moved flow waits hand count packet lag-is below held-hand =
       rw at-is
-      (pass_begins (rw (at-is, held_is) at moved) flow (rw at-is at waits) hand (rw at-is at count) (rw at-is at packet) fits lag-is below in_hand (rw at-is at held-hand))
+      (pass_begins (rw (at-is, held_is) at moved) flow (rw at-is at waits) hand (rw at-is at count) (rw at-is at packet) lag-is below (rw at-is at held-hand))
 
   pub begin_asks : (at held lag : ℕ) → at ≡ b → held ≡ packets_for sysex8 size → lag ≡ packets_for sysex8 total - packets_for sysex8 size → Asks at held lag (length ws)
   begin_asks at held lag e h l =

@@ -11,10 +11,10 @@ use Rattle.ump.proofs.First.{Side, under, over, side}
 use Rattle.flow.proofs.Flowing.{flow_padded}
 use Rattle.merge.specs.Thirteens.{number}
 use Rattle.merge.specs.Pieces.{waiting, Padded, Flows}
-use Rattle.merge.specs.declared.thirteen.Thirteen.{Thirteen}
-use Rattle.merge.specs.declared.pending.Pending.{Pending}
+use Rattle.merge.specs.declared.held.Thirteen.{Thirteen}
+use Rattle.merge.specs.declared.held.Pending.{Pending}
 
-module _ (p : Pending) (piece moved : Thirteen) (padded : Padded p) (fits : piece.high < 2 ^ 40) (small : piece.low < 2 ^ 64)
+module _ (p : Pending) (piece moved : Thirteen) (padded : Padded p) (small : piece.low < 2 ^ 64)
     (sp : p.low < 2 ^ 64) (sm : moved.low < 2 ^ 64) (behind : number moved ≡ number piece / 2 ^ (8 * p.count)) where
   abbrev k : ℕ
   k = 8 * (13 - p.count)
@@ -22,7 +22,7 @@ module _ (p : Pending) (piece moved : Thirteen) (padded : Padded p) (fits : piec
   less : number moved < 2 ^ k
   less =
       let e : k + 8 * p.count ≡ 104 = omega (arith, padded.few) in
-      rw behind (shr_lt k (8 * p.count) (rw e (omega arith)))
+      rw behind (shr_lt k (8 * p.count) (rw e (omega (arith, piece.small))))
 
   sum_low : p.low + moved.low < 2 ^ 64
   sum_low = go (side k 64)
@@ -46,7 +46,7 @@ module _ (p : Pending) (piece moved : Thirteen) (padded : Padded p) (fits : piec
       let j = 104 - k in
       let e : j + k ≡ 104 = omega arith in
       let whole : 2 ^ j * 2 ^ k ≡ 2 ^ 104 = sym (pow-add 2 j k) ∙ ap (λ (x : ℕ). 2 ^ x) e in
-      let fit : n / 2 ^ k * 2 ^ k + number moved < 2 ^ 104 = rw whole at (digits_lt (shr_lt {n = n} j k (rw e (omega (arith, padded.fits)))) less) in
+      let fit : n / 2 ^ k * 2 ^ k + number moved < 2 ^ 104 = rw whole at (digits_lt (shr_lt {n = n} j k (rw e (omega (arith, p.fits)))) less) in
       omega (arith, fit, split n k, padded.zeros)
 
   -- both parts fit, and together they are what waits and what comes
@@ -58,4 +58,4 @@ module _ (p : Pending) (piece moved : Thirteen) (padded : Padded p) (fits : piec
 pub flows_padded : {w bytes us : List ℕ} {head : ℕ} {p : Pending} → Flows w bytes head p us → Below 256 bytes → Padded p
 flows_padded {p = p} f below =
     let n = flow_padded f below in
-    record { few = f.few; fits = omega (arith, n.1); zeros = n.0 }
+    record { few = f.few; zeros = n.0 }

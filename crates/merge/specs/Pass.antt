@@ -1,5 +1,5 @@
 -- All edits of a list that are due, in one forward pass over a payload. Assumes nothing.
-use Rattle.std.specs.Prelude.{◌≡◌, Bool, cond, not, List, [], ◌∷◌, ◌++◌, ℕ, ◌+◌, ◌-◌, ◌*◌, ◌/◌, ◌%◌, ◌≤◌, ◌<◌, ltb, length, take, drop, get_or}
+use Rattle.std.specs.Prelude.{◌≡◌, Bool, true, false, cond, not, List, [], ◌∷◌, ◌++◌, ℕ, ◌+◌, ◌-◌, ◌*◌, ◌/◌, ◌%◌, ◌≤◌, ◌<◌, ltb, length, take, drop, get_or}
 use Rattle.ump.specs.Word.{Below}
 use Rattle.ump.specs.Limits.{most_words, most_bytes}
 use Rattle.ump.specs.Packet.{sysex8}
@@ -10,8 +10,22 @@ use Rattle.flow.specs.Flowing.{Poured}
 use Rattle.merge.specs.Thirteens.{body}
 use Rattle.merge.specs.Pieces.{Stands}
 use Rattle.merge.specs.declared.merging.Step as code
+use Rattle.merge.specs.declared.merging.Shrinking.{Shrinking}
+use Rattle.merge.specs.declared.merging.Shrinking.TheVariants as shrinking
+use Rattle.merge.specs.declared.merging.Growing.{Growing}
+use Rattle.merge.specs.declared.merging.Growing.TheVariants as growing
 
 -- ---- one edit
+
+-- the edits that do not grow the payload are done before a pass
+abbrev pub is_before : Shrinking → Bool
+is_before shrinking.Now = false
+is_before shrinking.Before = true
+
+-- those that grow it are done in it
+abbrev pub is_now : Growing → Bool
+is_now growing.Now = true
+is_now growing.After = false
 
 -- those that grow the payload are done in a pass that has them grow, the others in one where they are not done already
 abbrev pub is_due : Bool → Bool → Bool → Bool

@@ -1,12 +1,13 @@
 -- Pieces that come after the bytes that wait, and where they come from. Assumes nothing.
 use Rattle.std.specs.Prelude.{◌≡◌, List, ℕ, ◌+◌, ◌-◌, ◌*◌, ◌/◌, ◌%◌, ◌^◌, ◌≤◌, ◌<◌, length, take, drop, get_or}
+use Rattle.std.proofs.Common.{lit≤}
 use Rattle.ump.specs.Word.{Below}
 use Rattle.ump.specs.Packet.{sysex8}
 use Rattle.ump.specs.Limits.{most_words}
 use Rattle.flow.specs.Digits.{val}
 use Rattle.flow.specs.Flowing.{flow_word, number_word, Put, Flow, Appended}
 use Rattle.merge.specs.Thirteens.{body}
-use Rattle.merge.specs.declared.pending.Pending.{Pending}
+use Rattle.merge.specs.declared.held.Pending.{Pending}
 
 -- the bytes that wait, as a number
 abbrev pub waiting : Pending → ℕ
@@ -14,7 +15,7 @@ waiting p = p.high * 2 ^ 64 + p.low
 
 -- no byte waits
 abbrev pub none : ℕ → Pending
-none packet = record { high = 0; low = 0; count = 0; packet = packet }
+none packet = record { high = 0; low = 0; count = 0; packet = packet; fits = lit≤ tt }
 
 -- how many bytes are taken
 abbrev pub taken : Pending → ℕ
@@ -23,7 +24,6 @@ taken p = 13 * p.packet + p.count
 -- nothing but zeros stands behind the bytes that wait
 pub record Padded (p : Pending) : Type 0 where
   pub few : p.count < 13
-  pub fits : p.high < 2 ^ 40
   pub zeros : waiting p % 2 ^ (8 * (13 - p.count)) ≡ 0
 
 -- so many words hold the packets that are full with some bytes more
@@ -36,7 +36,6 @@ pub record Reaches (room head : ℕ) (p : Pending) (some : ℕ) : Type 0 where
 -- a piece of some bytes, the first of this number, after what waits
 pub record Appends (ws us : List ℕ) (head : ℕ) (p : Pending) (n some : ℕ) (r : Pending) : Type 0 where
   pub appended : Appended sysex8 ws us head p.packet p.count (waiting p) n some r.packet r.count (waiting r)
-  pub small : r.high < 2 ^ 40
 
 -- the bytes of `bytes` are taken up to those that wait
 abbrev pub Flows : List ℕ → List ℕ → ℕ → Pending → List ℕ → Type 0
@@ -50,7 +49,6 @@ pub record Runs (Comes : List ℕ → List ℕ → Type 0) (ws : List ℕ) (head
   pub below : Below 256 bytes
   pub enough : taken p + some ≤ length bytes
   pub comes : Comes w bytes
-  pub fits : p.high < 2 ^ 40
   pub room : 4 * ((taken p + some) / 13) ≤ length ws
   pub small : length ws ≤ most_words
   pub free : head ≤ 4294967040
@@ -59,7 +57,6 @@ pub record Runs (Comes : List ℕ → List ℕ → Type 0) (ws : List ℕ) (head
 pub record Goes (Comes : List ℕ → List ℕ → Type 0) (ws us : List ℕ) (head : ℕ) (p : Pending) (some : ℕ) (r : Pending) : Type 0 where
   pub long : length us ≡ length ws
   pub more : taken r ≡ taken p + some
-  pub fits : r.high < 2 ^ 40
   pub flows : (w bytes : List ℕ) → Flows w bytes head p ws → Below 256 bytes → taken p + some ≤ length bytes → Comes w bytes → Flows w bytes head r us
 
 -- they are so many of these, from one on

@@ -1,7 +1,7 @@
 -- The 13 bytes of a packet as a number, in two parts, and parts of them. Assumes nothing.
 use Rattle.std.specs.Prelude.{List, [], ◌∷◌, ℕ, ◌+◌, ◌-◌, ◌*◌, ◌/◌, ◌%◌, ◌^◌, drop, get_or}
 use Rattle.ump.specs.Word.{octets}
-use Rattle.merge.specs.declared.thirteen.Thirteen.{Thirteen}
+use Rattle.merge.specs.declared.held.Thirteen.{Thirteen}
 
 abbrev pub number : Thirteen → ℕ
 number t = t.high * 2 ^ 64 + t.low

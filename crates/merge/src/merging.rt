@@ -5,14 +5,28 @@ ghost use Rattle.ump.specs.Edits.{edit_in, per_edit};
 ghost use Rattle.flow.specs.Digits.{val};
 ghost use Rattle.merge.specs.Thirteens.{number, body, front_of};
 ghost use Rattle.merge.specs.Pieces.{waiting, Moved};
-ghost use Rattle.merge.specs.Pass.{Steady, is_due, step_of, step_meaning, begin_of, Begins, Ends};
+ghost use Rattle.merge.specs.Pass.{Steady, is_before, is_now, is_due, step_of, step_meaning, begin_of, Begins, Ends};
 
-use super::numbers::over;
-use super::pending::{Pending, flush, give, keep};
-use super::thirteen::{Thirteen, front_of, load, store};
+use super::held::{Pending, Thirteen};
+use super::pending::{flush, give, keep};
+use super::thirteen::{front_of, load, store};
+
+// When edits are done that do not grow the payload: in this pass, or before it.
+#[derive(Clone, Copy, Debug, PartialEq, Eq)]
+pub enum Shrinking {
+    Now,
+    Before,
+}
+
+// When edits are done that grow the payload: in this pass, or after it.
+#[derive(Clone, Copy, Debug, PartialEq, Eq)]
+pub enum Growing {
+    Now,
+    After,
+}
 
 // What is done for one edit: bytes that are kept, bytes that are passed over, replacement bytes that are given.
-#[derive(Drop)]
+#[derive(Clone, Copy, Debug, PartialEq, Eq)]
 pub(crate) struct Step {
     pub(crate) kept: usize,
     pub(crate) out: usize,
@@ -23,7 +37,7 @@ pub(crate) struct Step {
 fn before(words: &[u32], from: usize) -> Pending
     requires { (from < 65536) × (0 < from % 13 → 4 * (from / 13) + 4 ≤ length words.now) }
     ensures { (waiting result ≡ front_of (val 13 (body words.now (from / 13))) (from % 13))
-        × ((result.count ≡ from % 13) × ((result.packet ≡ from / 13) × (result.high < 2 ^ 40))) }
+        × ((result.count ≡ from % 13) × (result.packet ≡ from / 13)) }
 {
     let packet = from / 13;
     let some = from % 13;
@@ -44,9 +58,7 @@ fn move_up(words: &mut [u32], head: u32, from: usize, to: usize, by: usize)
     if by == 0 {
         return;
     }
-    let mut packet = to;
-    while from < packet {
-        packet -= 1;
+    for packet in (from..to).rev() {
         let bytes = load(words, packet);
         store(words, packet + by, head, bytes.high, bytes.low);
     }
@@ -55,7 +67,7 @@ fn move_up(words: &mut [u32], head: u32, from: usize, to: usize, by: usize)
 // The packet of payload byte `at`, where that is not its first; packets stand `lag` packets on.
 fn packet_of(words: &[u32], at: usize, lag: usize) -> Thirteen
     requires { (at / 13 + lag < 65536) × (0 < at % 13 → 4 * (at / 13 + lag) + 4 ≤ length words.now) }
-    ensures { (0 < at % 13 → number result ≡ val 13 (body words.now (at / 13 + lag))) × (result.high < 2 ^ 40) }
+    ensures { 0 < at % 13 → number result ≡ val 13 (body words.now (at / 13 + lag)) }
 {
     if at % 13 == 0 {
         return Thirteen { high: 0, low: 0 };
@@ -65,8 +77,8 @@ fn packet_of(words: &[u32], at: usize, lag: usize) -> Thirteen
 
 // The packet of payload byte `next`, where `hand` is that of `at`, before it.
 fn next_of(words: &[u32], hand: Thirteen, at: usize, next: usize, lag: usize) -> Thirteen
-    requires { (hand.high < 2 ^ 40) × ((next / 13 + lag < 65536) × (0 < next % 13 → 4 * (next / 13 + lag) + 4 ≤ length words.now)) }
-    ensures { Steady words.now (number hand) at next lag (number result) × (result.high < 2 ^ 40) }
+    requires { (next / 13 + lag < 65536) × (0 < next % 13 → 4 * (next / 13 + lag) + 4 ≤ length words.now) }
+    ensures { Steady words.now (number hand) at next lag (number result) }
 {
     if at % 13 != 0 {
         if next / 13 == at / 13 {
@@ -76,47 +88,54 @@ fn next_of(words: &[u32], hand: Thirteen, at: usize, next: usize, lag: usize) ->
     packet_of(words, next, lag)
 }
 
-// Whether an edit is done in this pass: those that grow the payload if `grow` is true, the others unless `shrunk` is.
-fn is_due(grows: bool, shrunk: bool, grow: bool) -> bool
-    ensures { result ≡ is_due grows shrunk grow }
+// Whether an edit is done in this pass.
+fn is_due(grows: bool, shrinking: Shrinking, growing: Growing) -> bool
+    ensures { result ≡ is_due grows (is_before shrinking) (is_now growing) }
 {
     if grows {
-        return grow;
+        growing == Growing::Now
+    } else {
+        shrinking == Shrinking::Now
     }
-    !shrunk
 }
 
-// What is done for edit `index`, whose lower-numbered neighbour ends at `end`. Those that do not grow the payload are done before this pass
-// if `shrunk` is true, else in it; those that grow it are done in it if `grow` is true.
-fn step_of(numbers: &[usize], index: usize, end: usize, shrunk: bool, grow: bool) -> Step
+// What is done for edit `index`, whose lower-numbered neighbour ends at `end`: bytes are kept where it is not due, its replacement if it is
+// done before this pass, else its range.
+fn step_of(
+    numbers: &[usize],
+    index: usize,
+    end: usize,
+    shrinking: Shrinking,
+    growing: Growing,
+) -> Step
     requires { (index < length numbers.now / per_edit) × ((end ≤ (edit_in numbers.now index).from)
         × (((edit_in numbers.now index).from ≤ (edit_in numbers.now index).to)
-        × ((step_of shrunk grow end (edit_in numbers.now index)).kept ≤ most_bytes))) }
-    ensures { step_meaning result ≡ step_of shrunk grow end (edit_in numbers.now index) }
+        × ((step_of (is_before shrinking) (is_now growing) end (edit_in numbers.now index)).kept ≤ most_bytes))) }
+    ensures { step_meaning result ≡ step_of (is_before shrinking) (is_now growing) end (edit_in numbers.now index) }
 {
     let at = 3 * index;
     let from = numbers[at];
     let gap = from - end;
     let width = numbers[at + 1] - from;
     let length = numbers[at + 2];
-    if is_due(width < length, shrunk, grow) {
+    if is_due(width < length, shrinking, growing) {
         return Step {
             kept: gap,
             out: width,
             put: length,
         };
     }
-    if shrunk {
-        return Step {
+    match shrinking {
+        Shrinking::Now => Step {
+            kept: gap + width,
+            out: 0,
+            put: 0,
+        },
+        Shrinking::Before => Step {
             kept: gap + length,
             out: 0,
             put: 0,
-        };
-    }
-    Step {
-        kept: gap + width,
-        out: 0,
-        put: 0,
+        },
     }
 }
 
@@ -139,26 +158,25 @@ pub fn merge(
     total: usize,
     numbers: &[usize],
     bytes: &[u8],
-    shrunk: bool,
-    grow: bool,
+    shrinking: Shrinking,
+    growing: Growing,
 )
-    requires { Begins words.old head size total numbers.now bytes.now shrunk grow }
-    ensures { Ends words.old head size total numbers.now bytes.now shrunk grow
+    requires { Begins words.old head size total numbers.now bytes.now (is_before shrinking) (is_now growing) }
+    ensures { Ends words.old head size total numbers.now bytes.now (is_before shrinking) (is_now growing)
         words.new }
 {
     let count = numbers.len() / 3;
-    let held = layout::sysex8_packets(size);
-    let needed = layout::sysex8_packets(total);
-    let lag = over(needed, held);
+    let held = layout::packets_for::<layout::Sysex8>(size);
+    let needed = layout::packets_for::<layout::Sysex8>(total);
+    let lag = needed.saturating_sub(held);
     let mut at = begin_of(numbers, size);
     let mut flow = before(words, at);
     move_up(words, head, at / 13, held, lag);
     let mut hand = packet_of(words, at, lag);
     let mut end = at;
     let mut start = 0;
-    let mut index = 0;
-    while index < count {
-        let step = step_of(numbers, index, end, shrunk, grow);
+    for index in 0..count {
+        let step = step_of(numbers, index, end, shrinking, growing);
         let from = at + step.kept;
         let next = from + step.out;
         let coming = next_of(words, hand, at, next, lag);
@@ -168,7 +186,6 @@ pub fn merge(
         at = next;
         end = numbers[3 * index + 1];
         start += numbers[3 * index + 2];
-        index += 1;
     }
     flow = keep(words, head, flow, hand, lag, at, size);
     flush(words, head, flow, needed);

@@ -5,17 +5,8 @@ ghost use Rattle.flow.specs.Digits.{val};
 ghost use Rattle.merge.specs.Thirteens.{number, body, front_of};
 ghost use Rattle.merge.specs.Pieces.{Appends, Flushed, Goes, Given, Kept, Reaches, Runs, none, taken};
 
-use super::numbers::{least, most, over};
-use super::thirteen::{Thirteen, earlier, front, front_of, later, load, middle, piece_of, store};
-
-// Bytes that wait to be written, fewer than 13, at the front; the rest is zero. Packet `packet` is the next.
-#[derive(Drop)]
-pub struct Pending {
-    pub high: u64,
-    pub low: u64,
-    pub count: usize,
-    pub packet: usize,
-}
+use super::held::{Pending, Thirteen};
+use super::thirteen::{earlier, front, front_of, later, load, middle, piece_of, store};
 
 // No byte waits, and packet `packet` is the next.
 pub fn nothing(packet: usize) -> Pending
@@ -37,7 +28,7 @@ pub(crate) fn append(
     piece: Thirteen,
     some: usize,
 ) -> Pending
-    requires { (some ≤ 13) × ((piece.high < 2 ^ 40) × Reaches (length words.old) head pending some) }
+    requires { (some ≤ 13) × Reaches (length words.old) head pending some }
     ensures { Appends words.old words.new head pending (number piece) some result }
 {
     let count = pending.count;
@@ -73,7 +64,7 @@ pub(crate) fn append(
 
 // Writes what is pending as one of so many packets.
 pub fn flush(words: &mut [u32], head: u32, pending: Pending, packets: usize)
-    requires { (packets < 65536) × ((4 * packets ≤ length words.old) × ((pending.high < 2 ^ 40) × (head ≤ 4294967040))) }
+    requires { (packets < 65536) × ((4 * packets ≤ length words.old) × (head ≤ 4294967040)) }
     ensures { Flushed words.old head pending packets words.new }
 {
     let packet = pending.packet;
@@ -117,12 +108,8 @@ pub(crate) fn give(
         words.old words.new head pending (to - from) result }
 {
     let mut flow = pending;
-    let mut at = from;
-    while at < to {
-        let some = least(13, to - at);
-        let piece = piece_of(bytes, at, some);
-        flow = append(words, head, flow, piece, some);
-        at += some;
+    for piece in bytes[from..to].chunks(13) {
+        flow = append(words, head, flow, piece_of(piece), piece.len());
     }
     flow
 }
@@ -142,31 +129,28 @@ fn run_shifted(
         words.old words.new head pending (13 * (last - first)) result }
 {
     let count = pending.count;
+    let to = pending.packet;
     let mut wait = Thirteen {
         high: pending.high,
         low: pending.low,
     };
-    let mut to = pending.packet;
-    let mut packet = first;
-    while packet < last {
-        let bytes = load(words, packet + lag);
+    for step in 0..last - first {
+        let bytes = load(words, first + step + lag);
         let moved = later(bytes, count);
         store(
             words,
-            to,
+            to + step,
             head,
             wait.high + moved.high,
             wait.low + moved.low,
         );
         wait = earlier(bytes, 13 - count);
-        packet += 1;
-        to += 1;
     }
     Pending {
         high: wait.high,
         low: wait.low,
         count,
-        packet: to,
+        packet: to + (last - first),
     }
 }
 
@@ -177,13 +161,9 @@ fn run_even(words: &mut [u32], head: u32, packet: usize, first: usize, last: usi
     ensures { Goes (Kept head lag (13 * first) (13 * last) 0 (taken (none packet)))
         words.old words.new head (none packet) (13 * (last - first)) (none (packet + (last - first))) }
 {
-    let mut to = packet;
-    let mut from = first;
-    while from < last {
-        let bytes = load(words, from + lag);
-        store(words, to, head, bytes.high, bytes.low);
-        from += 1;
-        to += 1;
+    for step in 0..last - first {
+        let bytes = load(words, first + step + lag);
+        store(words, packet + step, head, bytes.high, bytes.low);
     }
 }
 
@@ -232,16 +212,16 @@ pub(crate) fn keep(
         return pending;
     }
     let byte = at % 13;
-    let some = least((13 - byte) % 13, to - at);
+    let some = usize::min((13 - byte) % 13, to - at);
     let piece = middle(hand, byte, some);
     let mut flow = append(words, head, pending, piece, some);
     let first = (at + 12) / 13;
     if to <= 13 * first {
         return flow;
     }
-    let last = most(first, to / 13);
+    let last = usize::max(first, to / 13);
     flow = run(words, head, flow, first, last, lag);
-    let rest = over(to, 13 * last);
+    let rest = to.saturating_sub(13 * last);
     let tail = front_of(words, last + lag, rest);
     append(words, head, flow, tail, rest)
 }

@@ -1,41 +1,22 @@
 // The payload bytes of a packet, 13 at once, as two numbers: the first five and the other eight.
-ghost use Rattle.std.specs.Prelude.{◌≡◌, ◌+◌, ◌-◌, ◌*◌, ◌/◌, ◌%◌, ◌^◌, ◌≤◌, ◌<◌, length, get_or, take, drop};
+ghost use Rattle.std.specs.Prelude.{◌≡◌, ◌+◌, ◌-◌, ◌*◌, ◌/◌, ◌%◌, ◌^◌, ◌≤◌, ◌<◌, length, get_or, take};
 ghost use Rattle.ump.specs.Packet.{sysex8};
 ghost use Rattle.ump.specs.Word.{word};
 ghost use Rattle.flow.specs.Digits.{val};
 ghost use Rattle.flow.specs.Flowing.{Put};
 ghost use Rattle.merge.specs.Thirteens.{number, body, front_of, middle_of};
 
-// The 13 bytes of a packet, as the first five and the other eight.
-#[derive(Clone, Copy)]
-pub struct Thirteen {
-    pub high: u64,
-    pub low: u64,
-}
-
-// A word as a number of 64 bits.
-fn wide(word: u32) -> u64
-    ensures { (result ≡ word) × (result < 4294967296) }
-{
-    word as u64
-}
-
-// A byte as a number of 64 bits.
-fn wide_byte(byte: u8) -> u64
-    ensures { (result ≡ byte) × (result < 256) }
-{
-    byte as u64
-}
+use super::held::Thirteen;
 
 // The payload octets of packet `packet`.
 pub(crate) fn load(words: &[u32], packet: usize) -> Thirteen
     requires { (packet < 65536) × (4 * packet + 4 ≤ length words.now) }
-    ensures { (number result ≡ val 13 (body words.now packet)) × (result.high < 2 ^ 40) }
+    ensures { number result ≡ val 13 (body words.now packet) }
 {
     let at = 4 * packet;
     Thirteen {
-        high: wide_byte(layout::octet_of(words[at], 3)) * 0x1_0000_0000 + wide(words[at + 1]),
-        low: wide(words[at + 2]) * 0x1_0000_0000 + wide(words[at + 3]),
+        high: u64::from(layout::octet_of(words[at], 3)) * 0x1_0000_0000 + u64::from(words[at + 1]),
+        low: u64::from(words[at + 2]) * 0x1_0000_0000 + u64::from(words[at + 3]),
     }
 }
 
@@ -53,8 +34,8 @@ pub(crate) fn store(words: &mut [u32], packet: usize, head: u32, high: u64, low:
 
 // The bytes some places on, below 13; the last are lost.
 pub(crate) fn later(t: Thirteen, some: usize) -> Thirteen
-    requires { (some < 13) × (t.high < 2 ^ 40) }
-    ensures { (number result ≡ number t / 2 ^ (8 * some)) × (result.high < 2 ^ 40) }
+    requires { some < 13 }
+    ensures { number result ≡ number t / 2 ^ (8 * some) }
 {
     if some == 0 {
         return t;
@@ -74,7 +55,7 @@ pub(crate) fn later(t: Thirteen, some: usize) -> Thirteen
 // The bytes some places earlier, 1 to 12; the first are lost.
 pub(crate) fn earlier(t: Thirteen, some: usize) -> Thirteen
     requires { (0 < some) × (some < 13) }
-    ensures { (number result ≡ number t * 2 ^ (8 * some) % 2 ^ 104) × (result.high < 2 ^ 40) }
+    ensures { number result ≡ number t * 2 ^ (8 * some) % 2 ^ 104 }
 {
     if some < 8 {
         return Thirteen {
@@ -90,8 +71,8 @@ pub(crate) fn earlier(t: Thirteen, some: usize) -> Thirteen
 
 // The first bytes, 0 to 12, and zeros.
 pub(crate) fn front(t: Thirteen, some: usize) -> Thirteen
-    requires { (some < 13) × (t.high < 2 ^ 40) }
-    ensures { (number result ≡ front_of (number t) some) × (result.high < 2 ^ 40) }
+    requires { some < 13 }
+    ensures { number result ≡ front_of (number t) some }
 {
     if some <= 5 {
         let rest = 8 * (5 - some);
@@ -110,7 +91,7 @@ pub(crate) fn front(t: Thirteen, some: usize) -> Thirteen
 // The first bytes of a packet, fewer than 13, and zeros.
 pub(crate) fn front_of(words: &[u32], packet: usize, some: usize) -> Thirteen
     requires { (some < 13) × ((packet < 65536) × (0 < some → 4 * packet + 4 ≤ length words.now)) }
-    ensures { (number result ≡ front_of (val 13 (body words.now packet)) some) × (result.high < 2 ^ 40) }
+    ensures { number result ≡ front_of (val 13 (body words.now packet)) some }
 {
     if some == 0 {
         return Thirteen { high: 0, low: 0 };
@@ -121,7 +102,7 @@ pub(crate) fn front_of(words: &[u32], packet: usize, some: usize) -> Thirteen
 // Some bytes of a packet from byte `byte` on, which is not its first, and zeros; none if it is.
 pub(crate) fn middle(t: Thirteen, byte: usize, some: usize) -> Thirteen
     requires { (byte < 13) × ((some < 13) × (byte ≡ 0 → some ≡ 0)) }
-    ensures { (number result ≡ middle_of (number t) byte some) × (result.high < 2 ^ 40) }
+    ensures { number result ≡ middle_of (number t) byte some }
 {
     if byte == 0 {
         return Thirteen { high: 0, low: 0 };
@@ -131,8 +112,8 @@ pub(crate) fn middle(t: Thirteen, byte: usize, some: usize) -> Thirteen
 
 // The bytes before byte `index`, and it.
 fn with_byte(t: Thirteen, index: usize, byte: u8) -> Thirteen
-    requires { (index < 13) × ((t.high < 2 ^ 40) × (number t % 2 ^ (8 * (13 - index)) ≡ 0)) }
-    ensures { (number result ≡ number t + byte * 2 ^ (8 * (12 - index))) × (result.high < 2 ^ 40) }
+    requires { (index < 13) × (number t % 2 ^ (8 * (13 - index)) ≡ 0) }
+    ensures { number result ≡ number t + byte * 2 ^ (8 * (12 - index)) }
 {
     let moved = later(
         Thirteen {
@@ -147,17 +128,15 @@ fn with_byte(t: Thirteen, index: usize, byte: u8) -> Thirteen
     }
 }
 
-// Lent bytes from `at` on, fewer than 13, and zeros, the first `done` of which are there.
-fn few_of(bytes: &[u8], at: usize, first: Thirteen, done: usize, some: usize) -> Thirteen
-    requires { (done ≤ some) × ((some < 13) × ((at + some ≤ length bytes.now)
-        × ((number first ≡ val 13 (take done (drop at bytes.now))) × (first.high < 2 ^ 40)))) }
-    ensures { (number result ≡ val 13 (take some (drop at bytes.now))) × (result.high < 2 ^ 40) }
+// Lent bytes, fewer than 13, and zeros, the first `done` of which are there.
+fn few_of(bytes: &[u8], first: Thirteen, done: usize) -> Thirteen
+    requires { (done ≤ length bytes.now) × ((length bytes.now < 13)
+        × (number first ≡ val 13 (take done bytes.now))) }
+    ensures { number result ≡ val 13 bytes.now }
 {
     let mut t = first;
-    let mut index = done;
-    while index < some {
-        t = with_byte(t, index, bytes[at + index]);
-        index += 1;
+    for index in done..bytes.len() {
+        t = with_byte(t, index, bytes[index]);
     }
     t
 }
@@ -176,28 +155,28 @@ fn four_of(bytes: &[u8], index: usize) -> u32
     )
 }
 
-// The first five lent bytes from `at` on.
-fn five_of(bytes: &[u8], at: usize) -> u64
-    requires { at + 5 ≤ length bytes.now }
-    ensures { (result ≡ val 5 (drop at bytes.now)) × (result < 2 ^ 40) }
+// The first five lent bytes.
+fn five_of(bytes: &[u8]) -> u64
+    requires { 5 ≤ length bytes.now }
+    ensures { (result ≡ val 5 bytes.now) × (result < 2 ^ 40) }
 {
-    wide_byte(bytes[at]) * 0x1_0000_0000 + wide(four_of(bytes, at + 1))
+    u64::from(bytes[0]) * 0x1_0000_0000 + u64::from(four_of(bytes, 1))
 }
 
-// Lent bytes from `at` on, up to 13, and zeros.
-pub(crate) fn piece_of(bytes: &[u8], at: usize, some: usize) -> Thirteen
-    requires { (some ≤ 13) × (at + some ≤ length bytes.now) }
-    ensures { (number result ≡ val 13 (take some (drop at bytes.now))) × (result.high < 2 ^ 40) }
+// Lent bytes, up to 13, and zeros.
+pub(crate) fn piece_of(bytes: &[u8]) -> Thirteen
+    requires { length bytes.now ≤ 13 }
+    ensures { number result ≡ val 13 bytes.now }
 {
-    if some < 5 {
-        return few_of(bytes, at, Thirteen { high: 0, low: 0 }, 0, some);
+    if bytes.len() < 5 {
+        return few_of(bytes, Thirteen { high: 0, low: 0 }, 0);
     }
-    let high = five_of(bytes, at);
-    if some == 13 {
+    let high = five_of(bytes);
+    if bytes.len() == 13 {
         return Thirteen {
             high,
-            low: wide(four_of(bytes, at + 5)) * 0x1_0000_0000 + wide(four_of(bytes, at + 9)),
+            low: u64::from(four_of(bytes, 5)) * 0x1_0000_0000 + u64::from(four_of(bytes, 9)),
         };
     }
-    few_of(bytes, at, Thirteen { high, low: 0 }, 5, some)
+    few_of(bytes, Thirteen { high, low: 0 }, 5)
 }

@@ -1,74 +1,63 @@
 -- The first four tests of the check: the refusals, and how many packets there are. Assumes nothing.
-use mathlib.Core.Path.{◌≡◌, sym, ap, subst}
+use mathlib.Core.Path.{◌≡◌, refl, ap}
+use mathlib.Core.Bool.{Bool, true, false, not}
+use lib.Dec.{eqb, ltb}
 use mathlib.Core.List.{List}
-use Prim.Native.Nat.{ℕ, ◌+◌, ◌*◌, ◌/◌, ◌%◌, ◌≤◌, ◌<◌}
+use Prim.Native.Nat.{ℕ, ◌*◌, ◌/◌, ◌%◌, ◌<◌}
 use native.Mathlib.Nat.{div-add-mod, le-div_iff_mul-le}
 use native.Mathlib.Omega.{arith}
 use lib.ListN.{length}
-use borrow.Author.Tests.{lt-ltb, le-ltb, eq-eqb, ne_eqb}
-use Rattle.refusal.specs.Answer.{refused}
+use borrow.Author.Tests.{ltb-false, eqb-true, not-false}
+use Rattle.refusal.specs.Answer.{Verdict, gives, refused, ◌▷◌, guard}
+use Rattle.refusal.proofs.Laws.{never_both, never_refused}
 use Rattle.ump.specs.Limits.{most_words}
 use Rattle.ump.specs.Packet.{Shape, payload}
 use Rattle.ump.specs.Check.{check, check_packets, payload_of}
-use Rattle.message.specs.declared.scan.Form.{Form}
-use Rattle.message.specs.Scan.{Framed, Inside, Shaped}
+use Rattle.ump.proofs.Sizes.{words_pos}
+use Rattle.message.specs.Scan.{framed, Inside}
 
--- whole packets, and what is left over behind them
-pub left_over : (len stride : ℕ) {n : ℕ} → n ≡ len / stride → stride * n + len % stride ≡ len
-left_over len stride e = rw e (div-add-mod len stride)
+-- what the four tests leave of a message of n packets
+pub record Framed (s : Shape) (ws : List ℕ) (len n : ℕ) : Type 0 where
+  pub inside : Inside s.words n ws
+  pub some : 0 < n
+  pub check_is : check s ws len ≡ check_packets s ws n
+  pub payload_is : payload_of s ws len ≡ payload s ws n
 
-module _ {lent len stride n : ℕ} (f : Framed lent len stride n) where
-  whole : stride * n ≡ len
-  whole = omega (arith, left_over len stride f.packets, f.ragged_not)
+-- the four tests, one after the other
+all_pass : {m n : ℕ} (a b c d : Bool) → guard a 1 0 ▷ guard b 2 0 ▷ guard c 3 0 ▷ guard d 4 0 ▷ gives m ≡ gives n
+    → (a ≡ false) × (b ≡ false) × (c ≡ false) × (d ≡ false) × (m ≡ n)
+all_pass true b c d e = never_refused e
+all_pass false true c d e = never_refused e
+all_pass false false true d e = never_refused e
+all_pass false false false true e = never_refused e
+all_pass false false false false e = (refl, refl, refl, refl, cc)
 
-  pub some_packet : 0 < stride → 0 < n
-  some_packet h = rw f.packets ((le-div_iff_mul-le h).1 (omega (arith, f.long_enough)))
+one_refuses : {number place : ℕ} (m : ℕ) (v : Verdict) (a b c d : Bool) → guard a 1 0 ▷ guard b 2 0 ▷ guard c 3 0 ▷ guard d 4 0 ▷ gives m ≡ refused number place
+    → guard a 1 0 ▷ guard b 2 0 ▷ guard c 3 0 ▷ guard d 4 0 ▷ v ≡ refused number place
+one_refuses m v true b c d e = cc
+one_refuses m v false true c d e = cc
+one_refuses m v false false true d e = cc
+one_refuses m v false false false true e = cc
+one_refuses m v false false false false e = never_both e
 
-pub framed_inside : {len stride n : ℕ} (ws : List ℕ) → Framed (length ws) len stride n → 0 < stride → Inside stride n ws
-framed_inside ws f h =
-    record {
-      some_words = h;
-      there = omega (arith, whole f, f.inside);
-      few = omega (arith, whole f, f.inside, f.few);
-    }
-
-module _ {form : Form} (s : Shape) (h : Shaped s form) (ws : List ℕ) (len : ℕ) where
-  -- the numbers are the shape's
-  of_shape : {n : ℕ} → Framed (length ws) len form.stride n → Framed (length ws) len s.words n
-  of_shape {n} f = subst (λ (w : ℕ). Framed (length ws) len w n) (sym h.words_are) f
-
-  -- past the first four tests the packets decide
-  pub check_framed : {n : ℕ} → Framed (length ws) len form.stride n → check s ws len ≡ check_packets s ws n
+module _ (s : Shape) (ws : List ℕ) (len : ℕ) where
+  pub framed_given : {n : ℕ} → framed s (length ws) len ≡ gives n → Framed s ws len n
   unfolding check
-  check_framed g =
-      let f = of_shape g in
-      rw (
-        le-ltb most_words (length ws) f.few,
-        le-ltb (length ws) len f.inside,
-        le-ltb len s.words f.long_enough,
-        eq-eqb (len % s.words) 0 f.ragged_not,
-        ← f.packets,
-      )
+  framed_given {n} e =
+      let t = all_pass (ltb most_words (length ws)) (ltb (length ws) len) (ltb len s.words) (not (eqb (len % s.words) 0)) e in
+      let few = ltb-false most_words (length ws) t.0 in
+      let within = ltb-false (length ws) len t.1 in
+      let enough = ltb-false len s.words t.2 in
+      let whole : len % s.words ≡ 0 = eqb-true _ _ (not-false _ t.3) in
+      let all : s.words * n ≡ len = rw (← t.4) (omega (arith, div-add-mod len s.words)) in
+      record {
+        inside = record { some_words = words_pos s; there = omega arith; few = omega arith };
+        some = rw (← t.4) ((le-div_iff_mul-le (words_pos s)).1 (omega arith));
+        check_is = rw (t.0, t.1, t.2, t.3, t.4);
+        payload_is = ap (payload s ws) t.4;
+      }
 
-  pub payload_framed : {n : ℕ} → Framed (length ws) len form.stride n → payload_of s ws len ≡ payload s ws n
-  payload_framed f = ap (payload s ws) (sym (of_shape f).packets)
-
-  -- each of the four refusals
-  pub refuse_long : most_words < length ws → refused 1 0 ≡ check s ws len
+  pub framed_refused : {number place : ℕ} → framed s (length ws) len ≡ refused number place → check s ws len ≡ refused number place
   unfolding check
-  refuse_long a = rw (lt-ltb most_words (length ws) a)
-
-  module _ (a : length ws ≤ most_words) where
-    pub refuse_length : length ws < len → refused 2 0 ≡ check s ws len
-    unfolding check
-    refuse_length b = rw (le-ltb most_words (length ws) a, lt-ltb (length ws) len b)
-
-    module _ (b : len ≤ length ws) where
-      pub refuse_short : len < form.stride → refused 3 0 ≡ check s ws len
-      unfolding check
-      refuse_short c = rw (le-ltb most_words (length ws) a, le-ltb (length ws) len b, lt-ltb len s.words (rw h.words_are c))
-
-      pub refuse_ragged : form.stride ≤ len → (len % form.stride ≡ 0 → ⊥) → refused 4 0 ≡ check s ws len
-      unfolding check
-      refuse_ragged c d =
-          rw (le-ltb most_words (length ws) a, le-ltb (length ws) len b, le-ltb len s.words (rw h.words_are c), ne_eqb (len % s.words) 0 (rw h.words_are d))
+  framed_refused e =
+      one_refuses (len / s.words) (check_packets s ws (len / s.words)) (ltb most_words (length ws)) (ltb (length ws) len) (ltb len s.words) (not (eqb (len % s.words) 0)) e

@@ -3,17 +3,18 @@ use mathlib.Core.Path.{◌≡◌, refl}
 use Prim.Native.Nat.{ℕ, suc, ◌+◌, ◌*◌, ◌≤◌, ◌<◌}
 use native.Mathlib.Nat.{mul-suc, mul-le-mul_left, le-mul_of_pos_right, mul_comm}
 use native.Mathlib.Omega.{arith}
-use mathlib.Core.Bool.{Bool, true, false, cond, ◌||◌}
+use mathlib.Core.Bool.{Bool, true, false, not, cond}
 use mathlib.Core.List.{List}
-use lib.Dec.{eqb, ltb}
-use borrow.Author.Tests.{lt-ltb, le-ltb}
+use lib.Dec.{eqb}
+use borrow.Author.Tests.{ne_eqb}
 use lib.ListN.{length}
 use mir.Syntax.{w64}
 use mir.Val.{Fits}
+use Rattle.refusal.specs.Answer.{refused, guard}
+use Rattle.ump.specs.Word.{nibble}
 use Rattle.ump.specs.Limits.{most_words}
 use Rattle.ump.specs.Packing.{status_for}
-use Rattle.ump.specs.Check.{first_where, status_number}
-use Rattle.ump.proofs.First.{first_le}
+use Rattle.ump.specs.Check.{status_number}
 use Rattle.message.specs.Scan.{Inside}
 
 -- a packet below their number is inside the words
@@ -39,18 +40,6 @@ here {stride} {n} {ws} p h k =
       bytes_fit = record { fits = omega arith };
     }
 
--- ---- a count that is out of range, or in it
-
-module _ (count least most : ℕ) where
-  pub count_low : count < least → (ltb count least || ltb most count) ≡ true
-  count_low h = rw (lt-ltb count least h)
-
-  pub count_high : least ≤ count → most < count → (ltb count least || ltb most count) ≡ true
-  count_high h k = rw (le-ltb count least h, lt-ltb most count k)
-
-  pub count_in : least ≤ count → count ≤ most → (ltb count least || ltb most count) ≡ false
-  count_in h k = rw (le-ltb count least h, le-ltb most count k)
-
 -- the number for a wrong status, by the status that was wanted
 pub number_of_status : (n p : ℕ) → status_number n p ≡ 6 + status_for n p
 unfolding status_number status_for
@@ -62,11 +51,10 @@ number_of_status n p = go (eqb n 1) (eqb p 0) (eqb (suc p) n)
     go false false true = refl
     go false false false = refl
 
--- the word index of the packet that a search found, or of none, fits
-pub found_fits : {stride n : ℕ} {ws : List ℕ} (f : ℕ → Bool) → Inside stride n ws → {i : ℕ} → i ≡ first_where f n → Fits w64 (stride * i)
-found_fits {stride} {n} f h {i} e =
-    let l : stride * i ≤ stride * n = mul-le-mul_left stride (rw e (first_le f n)) in
-    record { fits = omega (arith, h.few) }
+-- the refusal for a wrong status, by the status that was wanted
+pub wrong_status : (word n p : ℕ) {status : ℕ} → status ≡ status_for n p → (nibble word 2 ≡ status → ⊥)
+    → refused (6 + status) 0 ≡ guard (not (eqb (nibble word 2) (status_for n p))) (status_number n p) 0
+wrong_status word n p e d = rw (ne_eqb _ _ (rw e at d), number_of_status n p, e)
 
 -- there is a word to begin with
 pub begins : {stride n : ℕ} {ws : List ℕ} → Inside stride n ws → 0 < n → 0 < length ws

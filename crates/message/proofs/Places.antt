@@ -11,7 +11,7 @@ use Rattle.ump.proofs.Sizes.{size_small}
 use Rattle.ump.proofs.BytePlaces.{packet_of_below, byte_in_below, get_d_payload}
 use Rattle.message.specs.Scan.{Sized, Found}
 use Rattle.message.proofs.Laws.{Here, here}
-use Rattle.message.proofs.Checked.{shaped8, Taken, taken_inside, taken-counted}
+use Rattle.message.proofs.Checked.{Taken, taken_inside, taken-counted}
 use Rattle.message.proofs.Sizes.{size-to, found_place}
 
 -- byte b of packet p is payload byte i of the message in the first len words
@@ -26,9 +26,9 @@ pub record Standing (ws : List ℕ) (len i p b : ℕ) : Type 0 where
 module _ {ws : List ℕ} {len : ℕ} where
   pub sized : {size : ℕ} → Taken sysex8 ws len size → Sized ws (len / 4) size
   sized m =
-      let inside = taken_inside sysex8 shaped8 ws len m.valid in
-      let counted = taken-counted sysex8 shaped8 ws len m.valid in
-      record { inside = inside; counted = counted; size_is = rw (size-to sysex8 ws (len / 4) shaped8 inside counted (len / 4) (omega arith)) m.sized }
+      let inside = taken_inside sysex8 ws len m.valid in
+      let counted = taken-counted sysex8 ws len m.valid in
+      record { inside = inside; counted = counted; size_is = rw (size-to sysex8 ws (len / 4) inside counted (len / 4) (omega arith)) m.sized }
 
   module _ {size i : ℕ} (m : Taken sysex8 ws len size) (h : i < size) where
     inside_payload : i < length (payload sysex8 ws (len / 4))
@@ -36,8 +36,8 @@ module _ {ws : List ℕ} {len : ℕ} where
 
     pub standing : {p b : ℕ} → Found 4 1 ws (len / 4) i p b → Standing ws len i p b
     standing {p} {b} f =
-        let k = taken_inside sysex8 shaped8 ws len m.valid in
-        let e = found_place sysex8 ws (len / 4) shaped8 k (taken-counted sysex8 shaped8 ws len m.valid) f in
+        let k = taken_inside sysex8 ws len m.valid in
+        let e = found_place sysex8 ws (len / 4) k (taken-counted sysex8 ws len m.valid) f in
         let n : p < len / 4 = rw e.0 (packet_of_below sysex8 ws (len / 4) i inside_payload) in
         let o : Here 4 p ws = here p k n in
         let d : b < size_at sysex8 ws p = rw (e.0, e.1) (byte_in_below sysex8 ws (len / 4) i inside_payload k.there) in

@@ -1,4 +1,5 @@
 -- Wrong answers that the promises shut out, two of each call, on P2's and P5's messages. Assumes nothing.
+use Rattle.std.specs.Prelude.{Ok, Err}
 use mathlib.Core.Path.{◌≡◌, refl, ap, ◌∙◌}
 use mathlib.Core.List.{List, [], ◌∷◌, ◌++◌}
 use Prim.Native.Nat.{ℕ}
@@ -8,7 +9,6 @@ use denote.Triple.Clauses.{AtExit}
 use borrow.Fn.Kinds.{Dens, res_t, ended_of}
 use Rattle.refusal.specs.Answer.{Answer, Verdict}
 use Rattle.refusal.specs.declared.Refusal.TheVariants.{End, Group}
-use Rattle.refusal.specs.declared.ByteRead.TheVariants.{Value}
 use Rattle.refusal.specs.Tight.{ShutOut}
 use Rattle.refusal.proofs.Tight.{differ, told}
 use Rattle.ump.specs.Word.{octets}
@@ -17,9 +17,6 @@ use Rattle.ump.specs.Packing.{status_for}
 use Rattle.ump.specs.Check.{first_where, bad_type, bad_status, bad_count, bad_group, bad_id, status_number, check_packets, check, Summary, checked}
 use Rattle.ump.specs.Setters.{get_byte, copy_payload, packet_of, byte_in, store_byte, set_byte, on_heads, set_group, set_id}
 use Rattle.ump.specs.Samples.{alone, message2, message5}
-use Rattle.message.specs.declared.sysex8.Checked.TheVariants as checked8v
-use Rattle.message.specs.declared.sysex7.Checked.TheVariants as checked7v
-use Rattle.message.specs.declared.sysex8.Copied.TheVariants.{Size}
 use Rattle.message.proofs.sysex8.check.Kinds as check8-kinds
 use Rattle.message.proofs.sysex8.check.Reads as check8
 use Rattle.message.proofs.sysex7.check.Kinds as check7-kinds
@@ -42,32 +39,32 @@ size_in = told (λ (m : Summary). m.size)
 
 -- P2: the count is not the payload size
 check8_count : ShutOut 1 check8-kinds.ps check8-kinds.r check8.Post
-    (λ κs a x s. (a.0.now ≡ message2) × (a.1.0 ≡ 4) × (x ≡ checked8v.Message (record { group = 2; id = 7; size = 3; words = 4 })))
+    (λ κs a x s. (a.0.now ≡ message2) × (a.1.0 ≡ 4) × (x ≡ Ok (record { group = 2; id = 7; size = 3; words = 4 })))
 unfolding checked check check_packets bad_type bad_status bad_count bad_group bad_id status_number first_where status_for payload payload_at size_of octets joined
 check8_count κs a x s w p = differ size_in tt (rw (w.0, w.1, w.2) at p)
 
 -- a start alone is refused Complete, not End
 check8_alone : ShutOut 1 check8-kinds.ps check8-kinds.r check8.Post
-    (λ κs a x s. (a.0.now ≡ alone 0x50110000) × (a.1.0 ≡ 4) × (x ≡ checked8v.Refused (record { refusal = End; place = 0 })))
+    (λ κs a x s. (a.0.now ≡ alone 0x50110000) × (a.1.0 ≡ 4) × (x ≡ Err (record { refusal = End; place = 0 })))
 unfolding checked check check_packets bad_type bad_status bad_count bad_group bad_id status_number first_where status_for payload payload_at size_of octets joined
 check8_alone κs a x s w p = differ size_in tt (rw (w.0, w.1, w.2) at p)
 
 -- SysEx7: the count is the payload size, with nothing added
 check7_count : ShutOut 1 check7-kinds.ps check7-kinds.r check7.Post
-    (λ κs a x s. (a.0.now ≡ 0x3002C142 ∷ 0 ∷ []) × (a.1.0 ≡ 2) × (x ≡ checked7v.Message (record { group = 0; size = 3; words = 2 })))
+    (λ κs a x s. (a.0.now ≡ 0x3002C142 ∷ 0 ∷ []) × (a.1.0 ≡ 2) × (x ≡ Ok (record { group = 0; size = 3; words = 2 })))
 unfolding checked check check_packets bad_type bad_status bad_count bad_group bad_id status_number first_where status_for payload payload_at size_of octets joined
 check7_count κs a x s w p = differ size_in tt (rw (w.0, w.1, w.2) at p)
 
 -- the first packet that differs is named, not the first of all
 check7_place : ShutOut 1 check7-kinds.ps check7-kinds.r check7.Post
-    (λ κs a x s. (a.0.now ≡ 0x30100000 ∷ 0 ∷ 0x31300000 ∷ 0 ∷ []) × (a.1.0 ≡ 4) × (x ≡ checked7v.Refused (record { refusal = Group; place = 0 })))
+    (λ κs a x s. (a.0.now ≡ 0x30100000 ∷ 0 ∷ 0x31300000 ∷ 0 ∷ []) × (a.1.0 ≡ 4) × (x ≡ Err (record { refusal = Group; place = 0 })))
 unfolding checked check check_packets bad_type bad_status bad_count bad_group bad_id status_number first_where status_for payload payload_at size_of octets joined
 check7_place κs a x s w p = differ size_in tt (rw (w.0, w.1, w.2) at p)
 
 -- ---- a payload byte of P5's message
 
 abbrev Byte : ℕ → ℕ → (κs : Lfts 1) → Dens κs byte-kinds.ps → (res_t byte-kinds.r κs).Denot → AtExit (ended_of 1 byte-kinds.ps byte-kinds.r) κs → Type 0
-Byte index value κs a x s = (a.0.now ≡ message5) × (a.1.0 ≡ 12) × (a.1.1.0 ≡ index) × (x ≡ Value value)
+Byte index value κs a x s = (a.0.now ≡ message5) × (a.1.0 ≡ 12) × (a.1.1.0 ≡ index) × (x ≡ Ok value)
 
 -- the stream id is no byte; the empty packet is passed
 byte_id : ShutOut 1 byte-kinds.ps byte-kinds.r byte.Post (Byte 0 0x05)
@@ -82,7 +79,7 @@ byte_empty κs a x s w p = differ (told (λ v. v)) tt (rw (w.0, w.1, w.2, w.3) a
 
 -- taken where the bytes lent are too few
 payload_room : ShutOut 2 payload-kinds.ps payload-kinds.r payload-promise.Post
-    (λ κs a x s. (a.0.now ≡ message5) × (a.1.0 ≡ 12) × (a.1.1.0.now ≡ 0 ∷ 0 ∷ []) × (x ≡ Size 3))
+    (λ κs a x s. (a.0.now ≡ message5) × (a.1.0 ≡ 12) × (a.1.1.0.now ≡ 0 ∷ 0 ∷ []) × (x ≡ Ok 3))
 unfolding copy_payload check check_packets bad_type bad_status bad_count bad_group bad_id status_number first_where status_for payload payload_at size_of octets joined
 payload_room κs a x s w p = differ (λ (o : Answer ℕ × List ℕ). told (λ v. v) o.0) tt (rw (w.0, w.1, w.2, w.3) at p)
 

@@ -1,6 +1,6 @@
 -- Payload sizes by the numbers of a shape, and the search for a byte. Assumes nothing.
 use mathlib.Core.Bool.{true, false}
-use mathlib.Core.Path.{◌≡◌, refl, sym, ap, ap₂, ◌∙◌, subst}
+use mathlib.Core.Path.{◌≡◌, refl, sym, ap, ◌∙◌, subst}
 use mathlib.Core.List.{List}
 use Prim.Native.Nat.{ℕ, zero, suc, ◌+◌, ◌-◌, ◌*◌, ◌/◌, ◌%◌, ◌≤◌, ◌<◌}
 use native.Mathlib.Nat.{mul-suc, mul-le-mul_left}
@@ -17,8 +17,7 @@ use Rattle.ump.specs.Setters.{packet_of, byte_in}
 use Rattle.ump.proofs.First.{first_is, Passed, passed_zero, passed_one, passed_here, first_cong, first_le, Side, under, over, side}
 use Rattle.ump.proofs.Sizes.{size_of_count}
 use Rattle.ump.proofs.Bytes.{length-payload_at}
-use Rattle.message.specs.declared.scan.Form.{Form}
-use Rattle.message.specs.Scan.{Inside, Counted, size_to, Sized, Found, Shaped}
+use Rattle.message.specs.Scan.{Inside, Counted, size_to, Sized, Found}
 use Rattle.message.proofs.Laws.{here}
 
 -- ---- the search for payload byte i
@@ -139,23 +138,20 @@ module _ {ws : List ℕ} {n size i : ℕ} (m : Sized ws n size) (h : i < size) w
 
 -- ---- for a shape, these are the sizes of its payload
 
-module _ {form : Form} (s : Shape) (ws : List ℕ) (n : ℕ) (h : Shaped s form)
-    (inside : Inside form.stride n ws) (counted : Counted form.stride n form.least form.most ws) where
-  pub size-at : (p : ℕ) → p < n → size_at s ws p ≡ nibble (get_or ws (form.stride * p) 0) 3 - form.least
-  size-at p l =
-      let c : count_at s ws p ≡ nibble (get_or ws (form.stride * p) 0) 3 = rw h.words_are in
-      size_of_count s (count_at s ws p) (rw (c, h.most_is) (counted p l).1) ∙ ap₂ (λ (a b : ℕ). a - b) c h.least_is
+module _ (s : Shape) (ws : List ℕ) (n : ℕ) (inside : Inside s.words n ws) (counted : Counted s.words n s.bias (s.room + s.bias) ws) where
+  pub size-at : (p : ℕ) → p < n → size_at s ws p ≡ nibble (get_or ws (s.words * p) 0) 3 - s.bias
+  size-at p l = size_of_count s (count_at s ws p) (counted p l).1
 
-  pub size-to : (m : ℕ) → m ≤ n → size_to form.stride form.least ws m ≡ length (payload s ws m)
+  pub size-to : (m : ℕ) → m ≤ n → size_to s.words s.bias ws m ≡ length (payload s ws m)
   unfolding size_to total payload joined
   size-to zero l = refl
   size-to (suc m) l =
-      let there : s.words * m + s.words ≤ length ws = rw h.words_are (here m inside l).there in
+      let there : s.words * m + s.words ≤ length ws = (here m inside l).there in
       omega (arith, size-to m (omega arith), length-append (joined (payload_at s ws) m) (payload_at s ws m), length-payload_at s ws m there, size-at m l)
 
-  pub found_place : {i p b : ℕ} → Found form.stride form.least ws n i p b → (p ≡ packet_of s ws n i) × (b ≡ byte_in s ws n i)
+  pub found_place : {i p b : ℕ} → Found s.words s.bias ws n i p b → (p ≡ packet_of s ws n i) × (b ≡ byte_in s ws n i)
   unfolding packet_of byte_in
   found_place {i} {p} {b} f =
       let e : p ≡ packet_of s ws n i = f.packet_is ∙ first_cong _ _ n (λ q l. ap (ltb i) (size-to (suc q) l)) in
-      let l : p ≤ n = rw f.packet_is (first_le (λ q. ltb i (size_to form.stride form.least ws (suc q))) n) in
+      let l : p ≤ n = rw f.packet_is (first_le (λ q. ltb i (size_to s.words s.bias ws (suc q))) n) in
       (e, rw (← e) (omega (arith, f.byte_is, size-to p l)))

@@ -6,17 +6,19 @@ ghost use Rattle.message.specs.Scan.{Sized, Found};
 ghost use Rattle.message.specs.Copying.{Fitting, copied, CopiedTo, AllFitting, all_copied, put_four};
 
 // The packet that holds a payload byte, and the byte's number in it.
-#[derive(Drop)]
+#[derive(Clone, Copy, Debug, PartialEq, Eq)]
 pub(crate) struct Place {
     pub(crate) packet: usize,
     pub(crate) byte: usize,
 }
 
 // Finds packet and byte of an index into the payload of the packets of a SysEx8 message, of `size` bytes.
+// Parameters, no struct: `Sized` stands in the contracts of two functions, this and the one that calls it.
 fn locate(words: &[u32], packets: usize, size: usize, index: usize) -> Place
     requires { Sized words.now packets size × (index < size) }
     ensures { Found 4 1 words.now packets index result.packet result.byte }
 {
+    // By hand: packet and byte go on together, and the precondition ends the walk inside.
     let mut packet = 0;
     let mut byte = index;
     loop {
@@ -97,11 +99,9 @@ fn copy_packet(words: &[u32], packet: usize, bytes: &mut [u8], at: usize) -> usi
         copy_full(words, packet, bytes, at);
         return at + 13;
     }
-    let size = layout::sysex8_size(count);
-    let mut byte = 0;
-    while byte < size {
+    let size = layout::payload_size::<layout::Sysex8>(count);
+    for byte in 0..size {
         bytes[at + byte] = byte_at(words, packet, byte);
-        byte += 1;
     }
     at + size
 }
@@ -111,10 +111,8 @@ pub(crate) fn copy_packets(words: &[u32], packets: usize, bytes: &mut [u8])
     requires { AllFitting words.now bytes.old packets }
     ensures { bytes.new ≡ all_copied words.now bytes.old packets }
 {
-    let mut packet = 0;
     let mut at = 0;
-    while packet < packets {
+    for packet in 0..packets {
         at = copy_packet(words, packet, bytes, at);
-        packet += 1;
     }
 }

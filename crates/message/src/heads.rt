@@ -1,30 +1,17 @@
-// The first words of a message's packets, with another group or another stream id.
-ghost use Rattle.std.specs.Prelude.{◌≡◌};
-ghost use Rattle.ump.specs.Packet.{Shape};
+// The first words of a message's packets, changed.
+ghost use Rattle.std.specs.Prelude.{◌≡◌, ℕ, get_or, ◌*◌, ◌<◌};
+ghost use Rattle.ump.specs.Packet.{sysex8};
 ghost use Rattle.ump.specs.Setters.{on_heads};
-ghost use Rattle.message.specs.Scan.{Inside, head_with};
+ghost use Rattle.message.specs.Scan.{Inside};
 
-// A first word with another group, or with another stream id, which is octet 2.
-fn with_head(word: u32, value: u8, stream: bool) -> u32
-    ensures { result ≡ head_with value stream word }
+// Changes the first word of each packet of a SysEx8 message.
+pub(crate) fn set_heads<C: Fn(u32) -> u32>(words: &mut [u32], packets: usize, change: C)
+    requires inside { Inside 4 packets words.old }
+    requires callable { C.IsAlwaysCallable change }
+    ensures { (head : ℕ → ℕ) → ((word changed : ℕ) → C.post change word changed → changed ≡ head word)
+        → words.new ≡ on_heads sysex8 head words.old packets }
 {
-    if stream {
-        layout::with_id(word, value)
-    } else {
-        layout::with_group(word, value)
-    }
-}
-
-// Sets the group, or the stream id, of some packets.
-pub(crate) fn set_heads(words: &mut [u32], stride: usize, packets: usize, value: u8, stream: bool)
-    requires { Inside stride packets words.old }
-    ensures { (shape : Shape) → shape.words ≡ stride
-        → words.new ≡ on_heads shape (head_with value stream) words.old packets }
-{
-    let mut packet = 0;
-    while packet < packets {
-        let at = stride * packet;
-        words[at] = with_head(words[at], value, stream);
-        packet += 1;
+    for packet in 0..packets {
+        words[4 * packet] = change(words[4 * packet]);
     }
 }

@@ -1,272 +1,155 @@
-// The check of a message of any shape, as loops over the first words of its packets. A promise here holds of every shape whose
-// numbers are the ones given.
-ghost use Rattle.std.specs.Prelude.{◌≡◌, ◌/◌, ◌<◌};
-ghost use Rattle.ump.specs.Packet.{Shape};
-ghost use Rattle.ump.specs.Check.{first_where, status_number, check, check_packets};
-ghost use Rattle.refusal.specs.Number.{number_of};
-ghost use Rattle.message.specs.Scan.{Inside, Packets, other_at, out_of_step, count_out, faulty, one};
-ghost use Rattle.message.specs.Scan.{Shaped, form_of, shape_of, in_order, Explains};
+// The check of a message of either type, as loops over the first words of its packets.
+ghost use Rattle.std.specs.Prelude.{◌≡◌, ℕ, Bool, not, ◌<◌, ◌==◌};
+ghost use Rattle.ump.specs.Word.{nibble};
+ghost use Rattle.ump.specs.Packing.{status_for};
+ghost use Rattle.ump.specs.Check.{status_number, sweep, check_packets};
+ghost use Rattle.refusal.specs.Meaning.{answer_of};
+ghost use Rattle.refusal.specs.Answer.{guard};
+ghost use Rattle.message.specs.Scan.{Inside, judged, Judges, framed, mask_of, faulty, in_order, size_found};
 
+use layout::Format;
 use refusal::{Fault, Refusal};
 
-// The numbers of a shape: words in a packet, message type, least and most count, and what the stream id is compared modulo.
-#[derive(Drop)]
-pub(crate) struct Form {
-    pub(crate) stride: usize,
-    pub(crate) kind: u32,
-    pub(crate) least: u32,
-    pub(crate) most: u32,
-    pub(crate) modulus: u32,
-}
-
-// Of SysEx8.
-pub(crate) const SYSEX8: Form = Form {
-    stride: 4,
-    kind: 5,
-    least: 1,
-    most: 14,
-    modulus: 256,
-};
-
-// Of SysEx7.
-pub(crate) const SYSEX7: Form = Form {
-    stride: 2,
-    kind: 3,
-    least: 0,
-    most: 6,
-    modulus: 1,
-};
-
-// How many packets a message has; none where Long, Length, Short or Ragged refuses it.
-pub(crate) fn packets_of(lent: usize, length: usize, stride: usize) -> usize
-    requires { 0 < stride }
-    ensures { Packets lent length stride result }
+// How many packets a message has: Long, Length, Short, Ragged.
+fn packets_of<F: Format>(lent: usize, length: usize) -> Result<usize, Fault>
+    ensures { answer_of result ≡ framed F.shape lent length }
 {
     if lent > layout::MOST_WORDS {
-        return 0;
+        return Err(Refusal::Long.into());
     }
     if length > lent {
-        return 0;
+        return Err(Refusal::Length.into());
     }
-    if length < stride {
-        return 0;
+    if length < F::WORDS {
+        return Err(Refusal::Short.into());
     }
-    if length % stride != 0 {
-        return 0;
+    if length % F::WORDS != 0 {
+        return Err(Refusal::Ragged.into());
     }
-    length / stride
+    Ok(length / F::WORDS)
 }
 
-// The first packet whose field of the first word is not `value`; their number if there is none.
-fn first_other(
+// Complete, Begin, Continue, End: what is wrong with the status of packet `packet`, by its first word.
+fn status_refusal(word: u32, packets: usize, packet: usize) -> Option<Refusal>
+    ensures { judged result ≡ guard (not (nibble word 2 == status_for packets packet)) (status_number packets packet) 0 }
+{
+    let status = layout::status_for(packets, packet);
+    if layout::status_of(word) == status {
+        return None;
+    }
+    match status {
+        0 => Some(Refusal::Complete),
+        1 => Some(Refusal::Begin),
+        2 => Some(Refusal::Continue),
+        _ => Some(Refusal::End),
+    }
+}
+
+// One walk of the check: the refusal of the first packet that is judged to be at fault, by its first word and its number. That packet
+// ends the walk, by the label that 01 asks for at this place.
+fn sweep<F: Format, J: Fn(u32, usize) -> Option<Refusal>>(
     words: &[u32],
-    stride: usize,
     packets: usize,
-    low: u32,
-    modulus: u32,
-    value: u32,
-) -> usize
-    requires { (Inside stride packets words.now) × (low < 32) × (0 < modulus) }
-    ensures { result ≡ first_where (other_at stride words.now low modulus value) packets }
+    judge: J,
+) -> Result<(), Fault>
+    requires inside { Inside F.shape.words packets words.now }
+    requires callable { J.IsAlwaysCallable judge }
+    ensures { (number : ℕ → ℕ) (bad : ℕ → Bool) → Judges F.shape (J.post judge) number bad words.now packets
+        → answer_of result ≡ sweep F.shape number bad packets }
 {
-    let mut packet = 0;
-    let at = loop {
-        if packet == packets {
-            break packets;
+    let mut fault = Ok(());
+    'packets: for packet in 0..packets {
+        let place = F::WORDS * packet;
+        if let Some(refusal) = judge(words[place], packet) {
+            fault = Err(Fault { refusal, place });
+            break 'packets;
         }
-        if (words[stride * packet] >> low) % modulus != value {
-            break packet;
-        }
-        packet += 1;
-    };
-    at
+    }
+    fault
 }
 
-// Complete, Begin, Continue, End: what a wrong status of packet `packet` is.
-fn status_refusal(packets: usize, packet: usize) -> Refusal
-    ensures { number_of result ≡ status_number packets packet }
+// What the packets of a message share, and the status: type, group and status, and the stream id where there is one.
+fn mask_of<F: Format>() -> u32
+    ensures { result ≡ mask_of F.shape }
 {
-    match layout::status_for(packets, packet) {
-        0 => Refusal::Complete,
-        1 => Refusal::Begin,
-        2 => Refusal::Continue,
-        _ => Refusal::End,
-    }
+    0xFFF0_0000 + F::IDS as u32 * 0xFF00
 }
 
-// The status walk: the first packet at fault ends it; their number if there is none.
-fn first_out_of_step(words: &[u32], stride: usize, packets: usize) -> usize
-    requires { Inside stride packets words.now }
-    ensures { result ≡ first_where (out_of_step stride words.now packets) packets }
+// The check of the packets: Type; Complete, Begin, Continue and End in one walk; Count; Group; Stream.
+fn check_packets<F: Format>(words: &[u32], packets: usize) -> Result<(), Fault>
+    requires { Inside F.shape.words packets words.now × (0 < packets) }
+    ensures { answer_of result ≡ check_packets F.shape words.now packets }
 {
-    let mut packet = 0;
-    let at = loop {
-        if packet == packets {
-            break packets;
-        }
-        if layout::status_of(words[stride * packet]) != layout::status_for(packets, packet) {
-            break packet;
-        }
-        packet += 1;
-    };
-    at
-}
-
-// The first packet whose count is out of range; their number if there is none.
-fn first_bad_count(words: &[u32], stride: usize, packets: usize, least: u32, most: u32) -> usize
-    requires { Inside stride packets words.now }
-    ensures { result ≡ first_where (count_out stride words.now least most) packets }
-{
-    let mut packet = 0;
-    let at = loop {
-        if packet == packets {
-            break packets;
-        }
-        let count = layout::count_of(words[stride * packet]) as u32;
-        if count < least {
-            break packet;
-        }
-        if most < count {
-            break packet;
-        }
-        packet += 1;
-    };
-    at
-}
-
-// The fault of packets that do not all pass: Type; Complete, Begin, Continue and End in one walk; Count; Group; Stream.
-fn find_fault(words: &[u32], packets: usize, form: Form) -> Fault
-    requires { (Inside form.stride packets words.now) × (0 < packets) × (0 < form.modulus) }
-    ensures { (s : Shape) → Shaped s form → Explains (check_packets s words.now packets) result }
-{
-    let stride = form.stride;
-    let foreign = first_other(words, stride, packets, 28, 16, form.kind);
-    if foreign < packets {
-        return Fault {
-            refusal: Refusal::Type,
-            place: stride * foreign,
-        };
-    }
-    let step = first_out_of_step(words, stride, packets);
-    if step < packets {
-        return Fault {
-            refusal: status_refusal(packets, step),
-            place: stride * step,
-        };
-    }
-    let count = first_bad_count(words, stride, packets, form.least, form.most);
-    if count < packets {
-        return Fault {
-            refusal: Refusal::Count,
-            place: stride * count,
-        };
-    }
-    let value = layout::group_of(words[0]) as u32;
-    let group = first_other(words, stride, packets, 24, 16, value);
-    if group < packets {
-        return Fault {
-            refusal: Refusal::Group,
-            place: stride * group,
-        };
-    }
-    let modulus = form.modulus;
-    let value = layout::id_of(words[0]) as u32 % modulus;
-    Fault {
-        refusal: Refusal::Stream,
-        place: stride * first_other(words, stride, packets, 8, modulus, value),
-    }
-}
-
-// Why a message is refused, by the packets that its length makes: Long, Length, Short, Ragged; then the fault of its packets.
-pub(crate) fn why(words: &[u32], length: usize, packets: usize, form: Form) -> Fault
-    requires { (0 < form.stride) × (packets ≡ length / form.stride) × (0 < form.modulus) }
-    ensures { (s : Shape) → Shaped s form → Explains (check s words.now length) result }
-{
-    if words.len() > layout::MOST_WORDS {
-        return Fault {
-            refusal: Refusal::Long,
-            place: 0,
-        };
-    }
-    if length > words.len() {
-        return Fault {
-            refusal: Refusal::Length,
-            place: 0,
-        };
-    }
-    if length < form.stride {
-        return Fault {
-            refusal: Refusal::Short,
-            place: 0,
-        };
-    }
-    if form.stride * packets != length {
-        return Fault {
-            refusal: Refusal::Ragged,
-            place: 0,
-        };
-    }
-    find_fault(words, packets, form)
-}
-
-// Whether a first word is at fault: 1 if what the mask keeps of it is not the wanted number, or its count is out of range; else 0.
-fn at_fault(word: u32, mask: u32, wanted: u32, least: u32, most: u32) -> u32
-    ensures { result ≡ one (faulty mask wanted least most word) }
-{
-    if word & mask != wanted {
-        return 1;
-    }
-    let count = layout::count_of(word) as u32;
-    if count < least {
-        return 1;
-    }
-    if most < count {
-        return 1;
-    }
-    0
-}
-
-// The numbers of SysEx7, or of SysEx8.
-fn form_of(seven: bool) -> Form
-    ensures { result ≡ form_of seven }
-{
-    if seven { SYSEX7 } else { SYSEX8 }
-}
-
-// One more than the payload size of packets that are all in order, else 0. One pass that adds up faults and counts, with no way
-// out of its loop; the first packet and the last, which have another status, are looked at apart. The shape is a value here, not
-// the struct, so that the pass is compiled for each of the two.
-pub(crate) fn in_order(words: &[u32], packets: usize, seven: bool) -> usize
-    requires { (Inside (form_of seven).stride packets words.now) × (0 < packets) }
-    ensures { result ≡ in_order (shape_of seven) words.now packets }
-{
-    let form = form_of(seven);
     let first = words[0];
-    let mask = 0xFFF0_0000 + (form.modulus - 1) * 0x100;
-    let base = form.kind * 0x1000_0000
+    let most = F::ROOM + F::BIAS;
+    let mask = mask_of::<F>();
+    sweep::<F, _>(words, packets, |word, _| {
+        (layout::type_of(word) != F::TYPE).then_some(Refusal::Type)
+    })?;
+    sweep::<F, _>(words, packets, |word, packet| {
+        status_refusal(word, packets, packet)
+    })?;
+    sweep::<F, _>(words, packets, |word, _| {
+        let count = layout::count_of(word) as usize;
+        (count < F::BIAS || most < count).then_some(Refusal::Count)
+    })?;
+    sweep::<F, _>(words, packets, |word, _| {
+        (layout::group_of(word) != layout::group_of(first)).then_some(Refusal::Group)
+    })?;
+    sweep::<F, _>(words, packets, |word, _| {
+        ((word & mask) % 0x1_0000 != (first & mask) % 0x1_0000).then_some(Refusal::Stream)
+    })
+}
+
+// Whether a first word is at fault: what the mask keeps of it is not the wanted number, or its count is out of range.
+fn at_fault<F: Format>(word: u32, wanted: u32) -> bool
+    ensures { result ≡ faulty F.shape wanted word }
+{
+    let count = layout::count_of(word) as usize;
+    word & mask_of::<F>() != wanted || count < F::BIAS || F::ROOM + F::BIAS < count
+}
+
+// The payload size of packets that are all in order. One pass that gathers faults and counts, with no way out of its loop; the first
+// packet and the last, which have another status, are looked at apart.
+fn in_order<F: Format>(words: &[u32], packets: usize) -> Option<usize>
+    requires { Inside F.shape.words packets words.now × (0 < packets) }
+    ensures { result ≡ in_order F.shape words.now packets }
+{
+    let first = words[0];
+    let base = F::TYPE as u32 * 0x1000_0000
         + layout::group_of(first) as u32 * 0x100_0000
-        + (first & mask) % 0x1_0000;
-    let start = base + layout::status_for(packets, 0) as u32 * 0x10_0000;
-    if at_fault(first, mask, start, form.least, form.most) != 0 {
-        return 0;
+        + (first & mask_of::<F>()) % 0x1_0000;
+    let status = layout::status_for(packets, 0) as u32;
+    if at_fault::<F>(first, base + status * 0x10_0000) {
+        return None;
     }
     let mut counts = layout::count_of(first) as u32;
     let last = packets - 1;
     if last == 0 {
-        return (counts - form.least) as usize + 1;
+        return Some(counts as usize - F::BIAS);
     }
-    let end = words[form.stride * last];
-    let mut bad = at_fault(end, mask, base + 0x30_0000, form.least, form.most);
+    let end = words[F::WORDS * last];
+    let mut bad = at_fault::<F>(end, base + 0x30_0000);
     counts += layout::count_of(end) as u32;
-    let mut packet = 1;
-    while packet < last {
-        let word = words[form.stride * packet];
-        bad += at_fault(word, mask, base + 0x20_0000, form.least, form.most);
+    for packet in 1..last {
+        let word = words[F::WORDS * packet];
+        bad |= at_fault::<F>(word, base + 0x20_0000);
         counts += layout::count_of(word) as u32;
-        packet += 1;
     }
-    if bad != 0 {
-        return 0;
+    if bad {
+        return None;
     }
-    counts as usize - form.least as usize * packets + 1
+    Some(counts as usize - F::BIAS * packets)
+}
+
+// The payload size of the message in the first `length` of the words lent: the refusals of the check, each over all packets before the
+// next. They are looked for only where the packets are not all in order.
+pub(crate) fn size_found<F: Format>(words: &[u32], length: usize) -> Result<usize, Fault>
+    ensures { answer_of result ≡ size_found F.shape words.now length }
+{
+    let packets = packets_of::<F>(words.len(), length)?;
+    match in_order::<F>(words, packets) {
+        Some(size) => Ok(size),
+        None => Err(check_packets::<F>(words, packets).unwrap_err()),
+    }
 }

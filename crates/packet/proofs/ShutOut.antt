@@ -1,4 +1,5 @@
 -- Wrong answers that the promises shut out, two of each call or more. Assumes nothing.
+use Rattle.std.specs.Prelude.{Ok, Err}
 use mathlib.Core.Path.{◌≡◌}
 use mathlib.Core.Bool.{true, false}
 use mathlib.Core.List.{List, [], ◌∷◌}
@@ -10,7 +11,6 @@ use borrow.Fn.Kinds.{Dens, res_t, ended_of}
 use Rattle.refusal.specs.Answer.{Answer, Verdict}
 use Rattle.refusal.specs.Tight.{ShutOut}
 use Rattle.refusal.specs.declared.Refusal.TheVariants.{Status}
-use Rattle.refusal.specs.declared.ByteRead.TheVariants.{Value}
 use Rattle.refusal.proofs.Tight.{differ, told}
 use Rattle.ump.specs.Word.{octets}
 use Rattle.ump.specs.Packet.{size_of}
@@ -19,8 +19,6 @@ use Rattle.ump.specs.Single.{Kind, complete, start, continue, end, unexpected_en
 use Rattle.ump.specs.Samples.{alone, message2}
 use Rattle.packet.specs.declared.Earlier.TheVariants.{Invalid}
 use Rattle.packet.specs.declared.Kind.TheVariants.{Complete, End, UnexpectedEnd}
-use Rattle.packet.specs.declared.sysex8.PacketRead.TheVariants as read8v
-use Rattle.packet.specs.declared.sysex7.PacketRead.TheVariants as read7v
 use Rattle.packet.proofs.sysex8.read_packet.Kinds as read8-kinds
 use Rattle.packet.proofs.sysex8.read_packet.Reads as read8
 use Rattle.packet.proofs.sysex7.read_packet.Kinds as read7-kinds
@@ -53,36 +51,36 @@ kind_in = told (λ (p : Packet). kind_number p.kind)
 
 -- P2: the count is not the payload size
 read8_count : ShutOut 1 read8-kinds.ps read8-kinds.r read8.Post
-    (λ κs a x s. (a.0.now ≡ message2) × (x ≡ read8v.Packet (record { kind = Complete; group = 2; id = 7; size = 3 })))
+    (λ κs a x s. (a.0.now ≡ message2) × (x ≡ Ok (record { kind = Complete; group = 2; id = 7; size = 3 })))
 unfolding read_packet8 bad_type bad_count blank octets size_of
 read8_count κs a x s w p = differ size_in tt (rw (w.0, w.1) at p)
 
 -- P10: an end with a dirty octet is refused Count at count 15, and is no unexpected end
 read8_dirty : ShutOut 1 read8-kinds.ps read8-kinds.r read8.Post
-    (λ κs a x s. (a.0.now ≡ alone 0x503F0901) × (x ≡ read8v.Packet (record { kind = UnexpectedEnd Invalid; group = 0; id = 9; size = 0 })))
+    (λ κs a x s. (a.0.now ≡ alone 0x503F0901) × (x ≡ Ok (record { kind = UnexpectedEnd Invalid; group = 0; id = 9; size = 0 })))
 unfolding read_packet8 bad_type bad_count blank octets size_of
 read8_dirty κs a x s w p = differ size_in tt (rw (w.0, w.1) at p)
 
 -- an end of zeros with count 1 is unexpected with valid data before it: it is no plain end, and its data is not invalid
 read8_plain : ShutOut 1 read8-kinds.ps read8-kinds.r read8.Post
-    (λ κs a x s. (a.0.now ≡ alone 0x50310900) × (x ≡ read8v.Packet (record { kind = End; group = 0; id = 9; size = 0 })))
+    (λ κs a x s. (a.0.now ≡ alone 0x50310900) × (x ≡ Ok (record { kind = End; group = 0; id = 9; size = 0 })))
 unfolding read_packet8 bad_type bad_count blank octets size_of
 read8_plain κs a x s w p = differ kind_in tt (rw (w.0, w.1) at p)
 
 read8_invalid : ShutOut 1 read8-kinds.ps read8-kinds.r read8.Post
-    (λ κs a x s. (a.0.now ≡ alone 0x50310900) × (x ≡ read8v.Packet (record { kind = UnexpectedEnd Invalid; group = 0; id = 9; size = 0 })))
+    (λ κs a x s. (a.0.now ≡ alone 0x50310900) × (x ≡ Ok (record { kind = UnexpectedEnd Invalid; group = 0; id = 9; size = 0 })))
 unfolding read_packet8 bad_type bad_count blank octets size_of
 read8_invalid κs a x s w p = differ kind_in tt (rw (w.0, w.1) at p)
 
 -- P11: the count is the payload size
 read7_count : ShutOut 1 read7-kinds.ps read7-kinds.r read7.Post
-    (λ κs a x s. (a.0.now ≡ message11) × (x ≡ read7v.Packet (record { kind = Complete; group = 0; size = 3 })))
+    (λ κs a x s. (a.0.now ≡ message11) × (x ≡ Ok (record { kind = Complete; group = 0; size = 3 })))
 unfolding read_packet7 bad_type bad_count size_of
 read7_count κs a x s w p = differ size_in tt (rw (w.0, w.1) at p)
 
 -- P11: Count comes before Status
 read7_order : ShutOut 1 read7-kinds.ps read7-kinds.r read7.Post
-    (λ κs a x s. (a.0.now ≡ 0x30F90000 ∷ 0 ∷ []) × (x ≡ read7v.Refused (record { refusal = Status; place = 0 })))
+    (λ κs a x s. (a.0.now ≡ 0x30F90000 ∷ 0 ∷ []) × (x ≡ Err (record { refusal = Status; place = 0 })))
 unfolding read_packet7 bad_type bad_count size_of
 read7_order κs a x s w p = differ size_in tt (rw (w.0, w.1) at p)
 
@@ -90,7 +88,7 @@ read7_order κs a x s w p = differ size_in tt (rw (w.0, w.1) at p)
 
 -- such a byte of such words at such an index
 abbrev Byte : List ℕ → ℕ → ℕ → (κs : Lfts 1) → Dens κs byte-kinds.ps → (res_t byte-kinds.r κs).Denot → AtExit (ended_of 1 byte-kinds.ps byte-kinds.r) κs → Type 0
-Byte words index value κs a x s = (a.0.now ≡ words) × (a.1.0 ≡ index) × (x ≡ Value value)
+Byte words index value κs a x s = (a.0.now ≡ words) × (a.1.0 ≡ index) × (x ≡ Ok value)
 
 -- P2 at 0: the octet before the payload is the stream id; at 2 there is no byte
 byte8_id : ShutOut 1 byte-kinds.ps byte-kinds.r byte8.Post (Byte message2 0 7)

@@ -1,3 +1,4 @@
--- What the answers of this crate mean, and what the steps of reading a packet answer.
+-- What the answers of this crate mean, what the steps of reading a packet answer, and that 01's readers do these steps.
 pub mod Meaning
 pub mod Steps
+pub mod Reads

@@ -1,18 +1,18 @@
 -- What the answers of this crate mean: document 01's number and place, or the values.
 -- Assumes nothing.
-use Rattle.std.specs.Prelude.{Bool, true, false, [], ◌∷◌, ℕ}
-use Rattle.refusal.specs.Answer.{Answer, gives, refused}
-use Rattle.refusal.specs.Number.{number_of}
-use Rattle.refusal.specs.Meaning.{fault_of}
+
+use Rattle.refusal.specs.declared.Fault.{Fault}
+use Rattle.refusal.specs.declared.Refusal.{Refusal}
+use Rattle.std.specs.Prelude.{Result, Ok, Err, Bool, true, false, [], ◌∷◌, ℕ}
+use Rattle.refusal.specs.Answer.{Answer, map_answer}
+use Rattle.refusal.specs.Meaning.{at_start, fault_of, answer_of}
 use Rattle.ump.specs.Single as ump
 use Rattle.packet.specs.declared.Earlier.{Earlier}
 use Rattle.packet.specs.declared.Earlier.TheVariants as earlier
 use Rattle.packet.specs.declared.Kind.{Kind}
 use Rattle.packet.specs.declared.Kind.TheVariants as kind
-use Rattle.packet.specs.declared.Decided.{Decided}
-use Rattle.packet.specs.declared.Decided.TheVariants as decided
-use Rattle.packet.specs.declared.sysex8.PacketRead as read8
-use Rattle.packet.specs.declared.sysex7.PacketRead as read7
+use Rattle.packet.specs.declared.sysex8.Packet as packet8
+use Rattle.packet.specs.declared.sysex7.Packet as packet7
 
 -- is the earlier data valid
 abbrev pub valid_of : Earlier → Bool
@@ -27,18 +27,18 @@ kind_meaning kind.End = ump.end
 kind_meaning (kind.UnexpectedEnd e) = ump.unexpected_end (valid_of e)
 
 -- SysEx8: the stream id is a list of one
-abbrev pub packet_meaning8 : read8.PacketRead → Answer ump.Packet
-packet_meaning8 (read8.TheVariants.Packet p) =
-    gives (ump.single_packet (kind_meaning p.kind) p.group (p.id ∷ []) p.size)
-packet_meaning8 (read8.TheVariants.Refused fault) = fault_of fault
+abbrev pub packet_meaning8 : Result packet8.Packet Fault → Answer ump.Packet
+packet_meaning8 answer = map_answer (λ p. ump.single_packet (kind_meaning p.kind) p.group (p.id ∷ []) p.size) (answer_of answer)
 
 -- SysEx7: no stream id
-abbrev pub packet_meaning7 : read7.PacketRead → Answer ump.Packet
-packet_meaning7 (read7.TheVariants.Packet p) =
-    gives (ump.single_packet (kind_meaning p.kind) p.group [] p.size)
-packet_meaning7 (read7.TheVariants.Refused fault) = fault_of fault
+abbrev pub packet_meaning7 : Result packet7.Packet Fault → Answer ump.Packet
+packet_meaning7 answer = map_answer (λ p. ump.single_packet (kind_meaning p.kind) p.group [] p.size) (answer_of answer)
 
--- a kind with a payload size; a refusal stands at place 0
-abbrev pub decided_meaning : Decided → Answer (ump.Kind × ℕ)
-decided_meaning (decided.Kind k size) = gives (kind_meaning k, size)
-decided_meaning (decided.Refused refusal) = refused (number_of refusal) 0
+-- a kind with a payload size
+abbrev pub decision_of : Kind × ℕ → ump.Kind × ℕ
+decision_of (kind, size) = (kind_meaning kind, size)
+
+-- what a step says, its value read by f; a refusal stands at place 0
+abbrev pub said : {A B : Type 0} → (A → B) → Result A Refusal → Answer B
+said f (Ok value) = map_answer f (answer_of (Ok value))
+said f (Err refusal) = fault_of (at_start refusal)

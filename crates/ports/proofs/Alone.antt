@@ -1,8 +1,8 @@
 -- What a port is told in a run of steps goes by its own streams, its own calls, and which of these get Full. Assumes nothing.
+use Rattle.std.specs.Prelude.{Option, None, Some}
 use mathlib.Core.Path.{◌≡◌, refl, sym, ap, ◌∙◌, subst}
 use mathlib.Core.Bool.{Bool, true, false}
 use mathlib.Core.List.{List, [], ◌∷◌}
-use mathlib.Core.Option.{Option, none, some}
 use Prim.Native.Nat.{ℕ, ◌+◌, ◌/◌, ◌≤◌}
 use native.Mathlib.Omega.{arith}
 use lib.Dec.{ltb, leb}
@@ -85,15 +85,15 @@ full_start false false false = refl
 
 full_said : (kind : Kind) (stream : Option (List ℕ)) (holds : ℕ) (full : Bool) (part room : ℕ)
     → refusals kind stream holds full part room ≡ refusals kind stream holds (is_full (refusals kind stream holds full part room)) part room
-full_said start none holds full part room = full_start (leb 12 holds) full (ltb part 4)
-full_said start (some words) holds full part room = refl
-full_said continue none holds full part room = refl
-full_said continue (some words) holds full part room = refl
-full_said end none holds full part room = refl
-full_said end (some words) holds full part room = refl
-full_said (unexpected_end valid) none holds full part room = refl
-full_said (unexpected_end true) (some words) holds full part room = refl
-full_said (unexpected_end false) (some words) holds full part room = refl
+full_said start None holds full part room = full_start (leb 12 holds) full (ltb part 4)
+full_said start (Some words) holds full part room = refl
+full_said continue None holds full part room = refl
+full_said continue (Some words) holds full part room = refl
+full_said end None holds full part room = refl
+full_said end (Some words) holds full part room = refl
+full_said (unexpected_end valid) None holds full part room = refl
+full_said (unexpected_end true) (Some words) holds full part room = refl
+full_said (unexpected_end false) (Some words) holds full part room = refl
 full_said complete stream holds full part room = refl
 
 flag_enough : (lent : ℕ) (full : Bool) (streams : Streams) (port : ℕ) (packet output : List ℕ)

@@ -1,8 +1,8 @@
 -- Never more than 16 streams are open and 12 of a port, each is of port 0 or 1, and keys are distinct. Assumes nothing.
+use Rattle.std.specs.Prelude.{Option, None, Some}
 use mathlib.Core.Path.{◌≡◌, refl, ◌∙◌}
 use mathlib.Core.Bool.{Bool, true, false, not, ◌&&◌}
 use mathlib.Core.List.{List, []}
-use mathlib.Core.Option.{Option, none, some}
 use Prim.Native.Nat.{ℕ, zero, suc, ◌+◌, ◌/◌, ◌≤◌, ◌<◌}
 use native.Mathlib.Omega.{arith}
 use lib.Dec.{T, T_not, eqb, ltb, leb}
@@ -35,13 +35,13 @@ bit_small false = omega arith
 
 news : (kind : Kind) (streams : Streams) (port part room : ℕ) (stream : Option (List ℕ)) (packet : List ℕ)
     → refusals kind stream (share_of streams port) (leb 16 (length streams)) part room ≡ pass → News streams port stream (stream_after kind (packets_of stream) packet)
-news start streams port part room none packet v =
+news start streams port part room None packet v =
     let a = pass_both (guard (leb 12 (share_of streams port)) 31 0) (guard (leb 16 (length streams)) 23 0 ▷ guard (ltb part 4) 14 0) v in
     let b = pass_both (guard (leb 16 (length streams)) 23 0) (guard (ltb part 4) 14 0) a.1 in
     one_more (leb-false 16 (length streams) (guard_passed _ 23 0 b.0)) (leb-false 12 (share_of streams port) (guard_passed _ 31 0 a.0))
-news start streams port part room (some words) packet v = not_more (omega arith)
-news continue streams port part room none packet v = never_refused v
-news continue streams port part room (some words) packet v = not_more (omega arith)
+news start streams port part room (Some words) packet v = not_more (omega arith)
+news continue streams port part room None packet v = never_refused v
+news continue streams port part room (Some words) packet v = not_more (omega arith)
 news end streams port part room stream packet v = not_more (omega arith)
 news (unexpected_end valid) streams port part room stream packet v = not_more (omega arith)
 news complete streams port part room stream packet v = not_more (omega arith)
@@ -146,15 +146,15 @@ given_arrived lent room port packet =
     (given_both _ _ (given_guard (ltb 1 port) 29 0 tt tt) (given_read packet))))
 
 given_refusals : (kind : Kind) (stream : Option (List ℕ)) (holds part room : ℕ) → holds < 4 → SlotGiven (refusals kind stream holds false part room)
-given_refusals start none holds part room few = rw (lt-leb 12 holds (omega arith)) (given_guard (ltb part 4) 14 0 tt tt)
-given_refusals start (some words) holds part room few = given_guard (ltb part 4) 14 0 tt tt
-given_refusals continue none holds part room few = other 30 tt tt
-given_refusals continue (some words) holds part room few = given_guard (ltb part (length words + 4)) 14 0 tt tt
-given_refusals end none holds part room few = other 30 tt tt
-given_refusals end (some words) holds part room few = given_guard (ltb room (length words + 4)) 14 0 tt tt
-given_refusals (unexpected_end valid) none holds part room few = other 30 tt tt
-given_refusals (unexpected_end true) (some words) holds part room few = given_guard (ltb room (length words + 4)) 14 0 tt tt
-given_refusals (unexpected_end false) (some words) holds part room few = accepted
+given_refusals start None holds part room few = rw (lt-leb 12 holds (omega arith)) (given_guard (ltb part 4) 14 0 tt tt)
+given_refusals start (Some words) holds part room few = given_guard (ltb part 4) 14 0 tt tt
+given_refusals continue None holds part room few = other 30 tt tt
+given_refusals continue (Some words) holds part room few = given_guard (ltb part (length words + 4)) 14 0 tt tt
+given_refusals end None holds part room few = other 30 tt tt
+given_refusals end (Some words) holds part room few = given_guard (ltb room (length words + 4)) 14 0 tt tt
+given_refusals (unexpected_end valid) None holds part room few = other 30 tt tt
+given_refusals (unexpected_end true) (Some words) holds part room few = given_guard (ltb room (length words + 4)) 14 0 tt tt
+given_refusals (unexpected_end false) (Some words) holds part room few = accepted
 given_refusals complete stream holds part room few = given_guard (ltb room 4) 14 0 tt tt
 
 room_left : (streams : Streams) (port : ℕ) → port ≤ 1 → InBounds streams → share_of streams port < 4 → length streams < 16

@@ -1,8 +1,8 @@
 -- What opening, growing and closing a stream change of a table: that stream alone. Assumes nothing.
+use Rattle.std.specs.Prelude.{Option, None, Some}
 use mathlib.Core.Path.{◌≡◌, refl, sym, ap, ◌∙◌}
 use mathlib.Core.Bool.{Bool, true, false, ◌&&◌}
 use mathlib.Core.List.{List, ◌++◌}
-use mathlib.Core.Option.{Option, none, some}
 use Prim.Native.Nat.{ℕ, ◌+◌, ◌*◌, ◌≤◌, ◌<◌}
 use native.Mathlib.Omega.{arith}
 use lib.Dec.{eqb}
@@ -59,8 +59,8 @@ shows_put {key} {table} {words} {table'} {words'} {new} {streams} n d s c =
 -- ---- what a slot says of a key: it has it, and the stream is open, or it is free, and the stream is not
 
 pub data Fills (key : ℕ) : ℕ → Option (List ℕ) → Type 0 where
-  by_key : {words : List ℕ} → Fills key key (some words)
-  by_none : Fills key 0 none
+  by_key : {words : List ℕ} → Fills key key (Some words)
+  by_none : Fills key 0 None
 
 and-true : (b : Bool) → bit (b && true) ≡ bit b
 and-true true = refl
@@ -83,7 +83,7 @@ look_cong : (table table' words words' : List ℕ) (key : ℕ) → slot_of table
 look_cong table table' words words' key e h = go (side (slot_of table key) 16)
   where
     go : Side (slot_of table key) 16 → stream_at table' words' key ≡ stream_at table words key
-    go (under l t) = look_found table' words' key (rw e l) ∙ ap some (rw e (h l)) ∙ sym (look_found table words key l)
+    go (under l t) = look_found table' words' key (rw e l) ∙ ap Some (rw e (h l)) ∙ sym (look_found table words key l)
     go (over l t) = look_none table' words' key (rw e l) ∙ sym (look_none table words key l)
 
 -- a store in the second half leaves the keys
@@ -129,7 +129,7 @@ module _ (key : ℕ) (table words : List ℕ) (not-Free : key ≡ 0 → ⊥) (so
 
     -- ---- closing: slot k, which has the key, is free
 
-    pub closed_changes : Changed key table words (set table k 0) words none
+    pub closed_changes : Changed key table words (set table k 0) words None
     closed_changes = record {
       here = look_none (set table k 0) words key (rw gone (omega arith));
       else = λ other n d. look_cong table (set table k 0) words words other
@@ -163,9 +163,9 @@ module _ (key : ℕ) (table words : List ℕ) (not-Free : key ≡ 0 → ⊥) (so
       unfolding stored_at
       more = stored_here table table' words packet k used n h fits long (get_or-set_same table (16 + k) (used + n) 0 (omega (arith, sound.whole)))
 
-      pub grown_changes : Changed key table words table' words' (some (stored_at table words k ++ take n packet))
+      pub grown_changes : Changed key table words table' words' (Some (stored_at table words k ++ take n packet))
       grown_changes = record {
-        here = look_found table' words' key (rw (same_slot key) h) ∙ ap some (rw (same_slot key) more);
+        here = look_found table' words' key (rw (same_slot key) h) ∙ ap Some (rw (same_slot key) more);
         else = λ other z d. look_cong table table' words words' other (same_slot other)
             (λ l. stored_else table table' words packet k used n h fits long (slot_of table other) l
             (λ e. d (sym (slot_at table other l) ∙ ap (λ i. get_or table i 0) e ∙ at))
@@ -226,9 +226,9 @@ module _ (key : ℕ) (table words : List ℕ) (not-Free : key ≡ 0 → ⊥) (so
           (stored_else table table₂ words packet s 0 4 hs fits long k l n
           (get_or-set_other table₁ (16 + s) (16 + k) 4 0 (λ e. n (omega arith)) ∙ get_or-set_other table s (16 + k) key 0 (λ e. omega arith)))
 
-      pub begun_changes : Changed key table words table₂ words₂ (some (take 4 packet))
+      pub begun_changes : Changed key table words table₂ words₂ (Some (take 4 packet))
       begun_changes = record {
-        here = look_found table₂ words₂ key (rw mine hs) ∙ ap some (rw mine kept_here);
+        here = look_found table₂ words₂ key (rw mine hs) ∙ ap Some (rw mine kept_here);
         else = λ other z d. look_cong table table₂ words words₂ other
             (slots other ∙ slot_other table s key sound.whole hs sound.apart (single spot) other z d (not_there spot other z d))
             (λ l. kept_else (slot_of table other) l (λ e. not_there spot other z d (sym (slot_at table other l) ∙ ap (λ i. get_or table i 0) e)));

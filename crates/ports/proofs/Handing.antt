@@ -1,8 +1,8 @@
 -- Every message that is handed out is a valid one of document 01. Assumes nothing.
+use Rattle.std.specs.Prelude.{Option, None, Some}
 use mathlib.Core.Path.{◌≡◌, refl, sym, ap, ◌∙◌, subst}
 use mathlib.Core.Bool.{Bool, true, false}
 use mathlib.Core.List.{List, [], ◌++◌}
-use mathlib.Core.Option.{Option, none, some}
 use Prim.Native.Nat.{ℕ, ◌+◌, ◌/◌, ◌≤◌}
 use native.Mathlib.Omega.{arith}
 use lib.ListN.{length, get_or, take, length-append, length-drop}
@@ -23,7 +23,7 @@ use Rattle.ports.proofs.Messages.{Head, status_of, read_head, Begun, begun_start
 
 -- every open stream is a start and continues of its group and stream id
 pub Orderly : Streams → Type 0
-Orderly streams = (key : ℕ) (words : List ℕ) → stream_of streams key ≡ some words → Begun key words
+Orderly streams = (key : ℕ) (words : List ℕ) → stream_of streams key ≡ Some words → Begun key words
 
 -- a message that is handed out is valid
 unfoldable pub Proper : Answer Reply → List ℕ → Type 0
@@ -33,10 +33,10 @@ pub none_orderly : Orderly []
 unfolding Orderly
 none_orderly key words e = some_none (sym e)
 
-some_once : {a b : List ℕ} → some a ≡ some b → a ≡ b
+some_once : {a b : List ℕ} → Some a ≡ Some b → a ≡ b
 some_once e = cc
 
-put_orderly : (streams : Streams) (key : ℕ) (new : Option (List ℕ)) → Orderly streams → ((words : List ℕ) → new ≡ some words → Begun key words) → Orderly (put streams key new)
+put_orderly : (streams : Streams) (key : ℕ) (new : Option (List ℕ)) → Orderly streams → ((words : List ℕ) → new ≡ Some words → Begun key words) → Orderly (put streams key new)
 unfolding Orderly
 put_orderly streams key new o h other words e = go (same other key)
   where
@@ -54,8 +54,8 @@ module _ (streams : Streams) (port : ℕ) (packet output : List ℕ) (p : Packet
   size_four : length four ≡ 4
   size_four = length-take-le 4 packet read.long
 
-  closed : Orderly (put streams key none)
-  closed = put_orderly streams key none o (λ words e. some_none (sym e))
+  closed : Orderly (put streams key None)
+  closed = put_orderly streams key None o (λ words e. some_none (sym e))
 
   -- the words handed out and what stands behind them
   whole : (words : List ℕ) → length words ≤ length output → length (onto words output) ≤ 16384
@@ -89,7 +89,7 @@ module _ (streams : Streams) (port : ℕ) (packet output : List ℕ) (p : Packet
   is_handed_out dropped = false
   is_handed_out (handed_out n) = true
 
-  ended : (words : List ℕ) → stream_of streams key ≡ some words → length words + 4 ≤ length output → Head (get_or packet 0 0) 3 key → Fine end words
+  ended : (words : List ℕ) → stream_of streams key ≡ Some words → length words + 4 ≤ length output → Head (get_or packet 0 0) 3 key → Fine end words
   unfolding Orderly
   ended words f room h =
       let all = words ++ four in
@@ -101,18 +101,18 @@ module _ (streams : Streams) (port : ℕ) (packet output : List ℕ) (p : Packet
   unfolding Orderly
   done_fine start k stream f holds full part v = (
     not_handed kept (onto [] output) (λ n e. never (ap is_handed_out e)),
-    put_orderly streams key (some four) o (λ words e. subst (Begun key) (some_once e) (begun_start key packet read.long (head start k refl))),
+    put_orderly streams key (Some four) o (λ words e. subst (Begun key) (some_once e) (begun_start key packet read.long (head start k refl))),
   )
-  done_fine continue k none f holds full part v = never_refused v
-  done_fine continue k (some words) f holds full part v = (
+  done_fine continue k None f holds full part v = never_refused v
+  done_fine continue k (Some words) f holds full part v = (
     not_handed kept (onto [] output) (λ n e. never (ap is_handed_out e)),
-    put_orderly streams key (some (words ++ four)) o
+    put_orderly streams key (Some (words ++ four)) o
         (λ all e. subst (Begun key) (some_once e) (begun_continue key packet read.long words (o key words f) (head continue k refl))),
   )
-  done_fine end k none f holds full part v = never_refused v
-  done_fine end k (some words) f holds full part v = ended words f (ltb-false (length output) (length words + 4) (guard_passed _ 14 0 v)) (head end k refl)
-  done_fine (unexpected_end true) k none f holds full part v = never_refused v
-  done_fine (unexpected_end true) k (some words) f holds full part v =
+  done_fine end k None f holds full part v = never_refused v
+  done_fine end k (Some words) f holds full part v = ended words f (ltb-false (length output) (length words + 4) (guard_passed _ 14 0 v)) (head end k refl)
+  done_fine (unexpected_end true) k None f holds full part v = never_refused v
+  done_fine (unexpected_end true) k (Some words) f holds full part v =
       ended words f (ltb-false (length output) (length words + 4) (guard_passed _ 14 0 v)) (head (unexpected_end true) k refl)
   done_fine (unexpected_end false) k stream f holds full part v = (not_handed dropped (onto [] output) (λ n e. never (ap is_handed_out e)), closed)
   done_fine complete k stream f holds full part v =

@@ -1,8 +1,8 @@
 -- What is said of interleaved streams holds of any two calls that promise the definitions. Assumes nothing.
+use Rattle.std.specs.Prelude.{Option, None, Some}
 use mathlib.Core.Path.{◌≡◌, refl, sym, ap, ◌∙◌, subst}
 use mathlib.Core.Bool.{false}
 use mathlib.Core.List.{List, [], ◌∷◌}
-use mathlib.Core.Option.{Option, none, some}
 use Prim.Native.Nat.{ℕ, suc, ◌+◌, ◌/◌, ◌≤◌, ◌<◌}
 use native.Mathlib.Omega.{arith}
 use lib.Dec.{leb}
@@ -88,10 +88,10 @@ module _ (lent : ℕ) (streams : Streams) (port : ℕ) (packet output : List ℕ
   opens k few mine part = rw (a, k, lt-leb 16 (length streams) few, passes (stream_of streams (key_at port p)))
     where
       passes : (stream : Option (List ℕ)) → refusals start stream (share_of streams port) false (lent / 16) (length output) ≡ pass
-      passes none = rw (lt-leb 12 (share_of streams port) mine, le-ltb (lent / 16) 4 part)
-      passes (some words) = rw (le-ltb (lent / 16) 4 part)
+      passes None = rw (lt-leb 12 (share_of streams port) mine, le-ltb (lent / 16) 4 part)
+      passes (Some words) = rw (le-ltb (lent / 16) 4 part)
 
-  grows : {packets : List ℕ} → p.kind ≡ continue → stream_of streams (key_at port p) ≡ some packets → length packets + 4 ≤ lent / 16 → (step lent streams port packet output).0 ≡ gives kept
+  grows : {packets : List ℕ} → p.kind ≡ continue → stream_of streams (key_at port p) ≡ Some packets → length packets + 4 ≤ lent / 16 → (step lent streams port packet output).0 ≡ gives kept
   unfolding step
   grows {packets} k f fits = rw (a, k, f, le-ltb (lent / 16) (length packets + 4) fits)
 
@@ -172,12 +172,12 @@ module _ {Receives : Receiver} {Clears : Clearer} (promised : PromisedPorts Rece
     last_follows : Follows t.words (answer, (table, words, output)) (step lent ended.last c.port c.packet c.output)
     last_follows = call_follows ended.good r.last
 
-    told_here : {p : Packet} {reply : Reply} → answer ≡ gives reply → Arrives t c p → let before = packets_of (since (key_at c.port p) none events) in
+    told_here : {p : Packet} {reply : Reply} → answer ≡ gives reply → Arrives t c p → let before = packets_of (since (key_at c.port p) None events) in
         (reply ≡ replied p.kind before (take 4 c.packet)) × (output ≡ onto (hands_out p.kind before (take 4 c.packet)) c.output)
     told_here {p} {reply} e a =
         let f = last_follows.tell in
         let w = step_accepted lent ended.last c.port c.packet c.output p a (sym f.answer ∙ e) in
-        let h : stream_of ended.last (key_at c.port p) ≡ since (key_at c.port p) none events = ended.holds (key_at c.port p) in
+        let h : stream_of ended.last (key_at c.port p) ≡ since (key_at c.port p) None events = ended.holds (key_at c.port p) in
         let g = sym e ∙ f.answer ∙ ap (λ (o : Outcome). o.0) w in
         let same : reply ≡ replied p.kind (packets_of (stream_of ended.last (key_at c.port p))) (take 4 c.packet) = cc in
         (rw h at same, f.output ∙ (rw h at (ap (λ (o : Outcome). o.1.1) w)))
@@ -201,22 +201,22 @@ module _ {Receives : Receiver} {Clears : Clearer} (promised : PromisedPorts Rece
         (ap (λ (o : Outcome). o.1.0) (step_accepted lent (streams_of t) c.port c.packet c.output p a (sym meant_follows.tell.answer ∙ e)))
         meant_follows.good.shows
 
-    freed_here : {p : Packet} {reply : Reply} {packets : List ℕ} → answer ≡ gives reply → Arrives t c p → stream_of (streams_of t) (key_at c.port p) ≡ some packets
-        → stream_after p.kind packets (take 4 c.packet) ≡ none
+    freed_here : {p : Packet} {reply : Reply} {packets : List ℕ} → answer ≡ gives reply → Arrives t c p → stream_of (streams_of t) (key_at c.port p) ≡ Some packets
+        → stream_after p.kind packets (take 4 c.packet) ≡ None
         → (suc (length (streams_in table words)) ≡ length (streams_of t)) × (suc (share_of (streams_in table words) c.port) ≡ share_of (streams_of t) c.port)
     freed_here {p} {packets = packets} e a f j =
         let key = key_at c.port p in
         let d = (good_in t.table t.words ended.good.sound).distinct in
         let mine = key_of c.port p (read_facts c.packet p (came _ _ _ c.packet p a).read).small in
-        let now : Shows table words (put (streams_of t) key none) = rw (f, j) at (put_here e a) in
-        let all = rw f at (length_put (streams_of t) key none d) in
-        let own = rw (f, mine) at (held_put c.port (streams_of t) key none d) in
+        let now : Shows table words (put (streams_of t) key None) = rw (f, j) at (put_here e a) in
+        let all = rw f at (length_put (streams_of t) key None d) in
+        let own = rw (f, mine) at (held_put c.port (streams_of t) key None d) in
         (omega (arith, same_length (shown table words) now, all), omega (arith, same-held (shown table words) now c.port, own))
 
     opened_here : {p : Packet} → Arrives t c p → p.kind ≡ start → length (streams_of t) < 16 → share_of (streams_of t) c.port < 12 → 4 ≤ part_of t.words → answer ≡ gives kept
     opened_here a k few mine part = meant_follows.tell.answer ∙ opens lent (streams_of t) c.port c.packet c.output a k few mine part
 
-    grown_here : {p : Packet} {packets : List ℕ} → Arrives t c p → p.kind ≡ continue → stream_of (streams_of t) (key_at c.port p) ≡ some packets
+    grown_here : {p : Packet} {packets : List ℕ} → Arrives t c p → p.kind ≡ continue → stream_of (streams_of t) (key_at c.port p) ≡ Some packets
         → length packets + 4 ≤ part_of t.words → answer ≡ gives kept
     grown_here a k f fits = meant_follows.tell.answer ∙ grows lent (streams_of t) c.port c.packet c.output a k f fits
 

@@ -1,8 +1,8 @@
 -- Open streams after a change of one of them. Assumes nothing.
+use Rattle.std.specs.Prelude.{Option, None, Some}
 use mathlib.Core.Path.{◌≡◌, refl, sym, ap, ◌∙◌}
 use mathlib.Core.Bool.{Bool, true, false, ◌&&◌}
 use mathlib.Core.List.{List, [], ◌∷◌}
-use mathlib.Core.Option.{Option, none, some}
 use Prim.Native.Nat.{ℕ, ◌+◌, ◌≤◌}
 use native.Mathlib.Omega.{arith}
 use lib.ListN.{length}
@@ -16,16 +16,16 @@ pub key_once : (port group id port' group' id' : ℕ) → group ≤ 15 → id �
     → (port ≡ port') × (group ≡ group') × (id ≡ id')
 key_once port group id port' group' id' a b c d e = (omega (arith, e), omega (arith, e), omega (arith, e))
 
-pub some_none : {A : Type 0} {words : List ℕ} → some words ≡ none → A
+pub some_none : {A : Type 0} {words : List ℕ} → Some words ≡ None → A
 some_none e = never (sym (ap is_open e))
 
 -- ---- the stream of a key
 
-find_without_same : (streams : Streams) (key : ℕ) → stream_of (without streams key) key ≡ none
+find_without_same : (streams : Streams) (key : ℕ) → stream_of (without streams key) key ≡ None
 find_without_same [] key = refl
 find_without_same (s ∷ streams) key = go (same s.key key) (find_without_same streams key)
   where
-    go : Same s.key key → stream_of (without streams key) key ≡ none → stream_of (without (s ∷ streams) key) key ≡ none
+    go : Same s.key key → stream_of (without streams key) key ≡ None → stream_of (without (s ∷ streams) key) key ≡ None
     go (alike p e) more = rw e more
     go (unlike p e) more = rw (e, e) more
 
@@ -40,18 +40,18 @@ find_without_other (s ∷ streams) key other n = go (same s.key key) (same s.key
     go (unlike p e) (unlike q f) more = rw (e, f) more
 
 pub find_put_same : (streams : Streams) (key : ℕ) (new : Option (List ℕ)) → stream_of (put streams key new) key ≡ new
-find_put_same streams key none = find_without_same streams key
-find_put_same streams key (some words) = go (same key key)
+find_put_same streams key None = find_without_same streams key
+find_put_same streams key (Some words) = go (same key key)
   where
-    go : Same key key → stream_of (put streams key (some words)) key ≡ some words
+    go : Same key key → stream_of (put streams key (Some words)) key ≡ Some words
     go (alike p e) = rw e
     go (unlike p e) = absurd (p refl)
 
 pub find_put_other : (streams : Streams) (key other : ℕ) (new : Option (List ℕ)) → (other ≡ key → ⊥) → stream_of (put streams key new) other ≡ stream_of streams other
-find_put_other streams key other none n = find_without_other streams key other n
-find_put_other streams key other (some words) n = go (same key other)
+find_put_other streams key other None n = find_without_other streams key other n
+find_put_other streams key other (Some words) n = go (same key other)
   where
-    go : Same key other → stream_of (put streams key (some words)) other ≡ stream_of streams other
+    go : Same key other → stream_of (put streams key (Some words)) other ≡ stream_of streams other
     go (alike p e) = absurd (n (sym p))
     go (unlike p e) = rw e (find_without_other streams key other n)
 
@@ -66,15 +66,15 @@ distinct_without (s ∷ streams) key d = go (same s.key key) (distinct_without s
     go (unlike p e) more = rw e (find_without_other streams key s.key p ∙ d.0, more)
 
 pub distinct_put : (streams : Streams) (key : ℕ) (new : Option (List ℕ)) → Distinct streams → Distinct (put streams key new)
-distinct_put streams key none d = distinct_without streams key d
-distinct_put streams key (some words) d = (find_without_same streams key, distinct_without streams key d)
+distinct_put streams key None d = distinct_without streams key d
+distinct_put streams key (Some words) d = (find_without_same streams key, distinct_without streams key d)
 
 -- where the key is not there, nothing is closed
-without-none : (streams : Streams) (key : ℕ) → stream_of streams key ≡ none → without streams key ≡ streams
+without-none : (streams : Streams) (key : ℕ) → stream_of streams key ≡ None → without streams key ≡ streams
 without-none [] key e = refl
 without-none (s ∷ streams) key e = go (same s.key key) e (without-none streams key)
   where
-    go : Same s.key key → stream_of (s ∷ streams) key ≡ none → (stream_of streams key ≡ none → without streams key ≡ streams) → without (s ∷ streams) key ≡ s ∷ streams
+    go : Same s.key key → stream_of (s ∷ streams) key ≡ None → (stream_of streams key ≡ None → without streams key ≡ streams) → without (s ∷ streams) key ≡ s ∷ streams
     go (alike p t) f more = some_none (rw t at f)
     go (unlike p t) f more = rw (t, more (rw t at f))
 
@@ -89,8 +89,8 @@ length_without (s ∷ streams) key d = go (same s.key key) (length_without strea
 
 pub length_put : (streams : Streams) (key : ℕ) (new : Option (List ℕ)) → Distinct streams
     → length (put streams key new) + bit (is_open (stream_of streams key)) ≡ length streams + bit (is_open new)
-length_put streams key none d = omega (arith, length_without streams key d)
-length_put streams key (some words) d = omega (arith, length_without streams key d)
+length_put streams key None d = omega (arith, length_without streams key d)
+length_put streams key (Some words) d = omega (arith, length_without streams key d)
 
 -- ---- the streams of one port
 
@@ -105,12 +105,12 @@ module _ (port : ℕ) where
       go false e (alike p t) more = never (sym e ∙ ap (is_of port) p ∙ h)
       go false e (unlike p t) more = rw (e, t) more
 
-  find_own_none : (streams : Streams) (key : ℕ) → stream_of streams key ≡ none → stream_of (own port streams) key ≡ none
+  find_own_none : (streams : Streams) (key : ℕ) → stream_of streams key ≡ None → stream_of (own port streams) key ≡ None
   find_own_none [] key h = refl
   find_own_none (s ∷ streams) key h = go (is_of port s.key) refl (same s.key key) h (find_own_none streams key)
     where
-      go : (b : Bool) → is_of port s.key ≡ b → Same s.key key → stream_of (s ∷ streams) key ≡ none → (stream_of streams key ≡ none → stream_of (own port streams) key ≡ none)
-          → stream_of (own port (s ∷ streams)) key ≡ none
+      go : (b : Bool) → is_of port s.key ≡ b → Same s.key key → stream_of (s ∷ streams) key ≡ None → (stream_of streams key ≡ None → stream_of (own port streams) key ≡ None)
+          → stream_of (own port (s ∷ streams)) key ≡ None
       go b e (alike p t) f more = some_none (rw t at f)
       go true e (unlike p t) f more = rw (e, t) (more (rw t at f))
       go false e (unlike p t) f more = rw e (more (rw t at f))
@@ -147,12 +147,12 @@ module _ (port : ℕ) where
 
   -- a stream of this port, and of another
   pub own_put : (streams : Streams) (key : ℕ) (new : Option (List ℕ)) → is_of port key ≡ true → own port (put streams key new) ≡ put (own port streams) key new
-  own_put streams key none h = own-without streams key
-  own_put streams key (some words) h = rw (h, own-without streams key)
+  own_put streams key None h = own-without streams key
+  own_put streams key (Some words) h = rw (h, own-without streams key)
 
   pub own_put_other : (streams : Streams) (key : ℕ) (new : Option (List ℕ)) → is_of port key ≡ false → own port (put streams key new) ≡ own port streams
-  own_put_other streams key none h = own_without_other streams key h
-  own_put_other streams key (some words) h = rw h (own_without_other streams key h)
+  own_put_other streams key None h = own_without_other streams key h
+  own_put_other streams key (Some words) h = rw h (own_without_other streams key h)
 
   -- how many the port holds
   pub held_put : (streams : Streams) (key : ℕ) (new : Option (List ℕ)) → Distinct streams

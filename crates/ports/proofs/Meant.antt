@@ -1,8 +1,8 @@
 -- The streams that a table and its words mean are shown by them, whatever they hold. Assumes nothing.
+use Rattle.std.specs.Prelude.{None, Some}
 use mathlib.Core.Path.{◌≡◌, refl, sym, ap, ◌∙◌}
 use mathlib.Core.Bool.{Bool, true, false, cond}
 use mathlib.Core.List.{List, [], ◌∷◌, ◌++◌, append-nil}
-use mathlib.Core.Option.{none, some}
 use Prim.Native.Nat.{ℕ, zero, suc, ◌+◌, ◌≤◌, ◌<◌}
 use native.Mathlib.Omega.{arith}
 use lib.ListN.{length, get_or, length-append}
@@ -19,20 +19,20 @@ use Rattle.ports.proofs.Simulation.{Good}
 
 -- ---- streams behind others
 
-find-append : (front back : Streams) (key : ℕ) → stream_of front key ≡ none → stream_of (front ++ back) key ≡ stream_of back key
+find-append : (front back : Streams) (key : ℕ) → stream_of front key ≡ None → stream_of (front ++ back) key ≡ stream_of back key
 find-append [] back key h = refl
 find-append (s ∷ front) back key h = go (same s.key key) h (find-append front back key)
   where
-    go : Same s.key key → stream_of (s ∷ front) key ≡ none → (stream_of front key ≡ none → stream_of (front ++ back) key ≡ stream_of back key) → stream_of ((s ∷ front) ++ back) key ≡ stream_of back key
+    go : Same s.key key → stream_of (s ∷ front) key ≡ None → (stream_of front key ≡ None → stream_of (front ++ back) key ≡ stream_of back key) → stream_of ((s ∷ front) ++ back) key ≡ stream_of back key
     go (alike p e) f more = some_none (rw e at f)
     go (unlike p e) f more = rw e (more (rw e at f))
 
-find_front : (front back : Streams) (key : ℕ) {words : List ℕ} → stream_of front key ≡ some words → stream_of (front ++ back) key ≡ some words
+find_front : (front back : Streams) (key : ℕ) {words : List ℕ} → stream_of front key ≡ Some words → stream_of (front ++ back) key ≡ Some words
 find_front [] back key h = some_none (sym h)
 find_front (s ∷ front) back key h = go (same s.key key) h (find_front front back key)
   where
-    go : {words : List ℕ} → Same s.key key → stream_of (s ∷ front) key ≡ some words → (stream_of front key ≡ some words → stream_of (front ++ back) key ≡ some words)
-        → stream_of ((s ∷ front) ++ back) key ≡ some words
+    go : {words : List ℕ} → Same s.key key → stream_of (s ∷ front) key ≡ Some words → (stream_of front key ≡ Some words → stream_of (front ++ back) key ≡ Some words)
+        → stream_of ((s ∷ front) ++ back) key ≡ Some words
     go (alike p e) f more = rw e (rw e at f)
     go (unlike p e) f more = rw e (more (rw e at f))
 
@@ -45,11 +45,11 @@ own-append port (s ∷ front) back = go (is_of port s.key) refl (own-append port
     go true e more = rw (e, more)
     go false e more = rw e more
 
-distinct_append : (front : Streams) (s : Stream) → Distinct front → stream_of front s.key ≡ none → Distinct (front ++ (s ∷ []))
+distinct_append : (front : Streams) (s : Stream) → Distinct front → stream_of front s.key ≡ None → Distinct (front ++ (s ∷ []))
 distinct_append [] s d h = (refl, tt)
 distinct_append (t ∷ front) s d h = go (same t.key s.key) h (distinct_append front s d.1)
   where
-    go : Same t.key s.key → stream_of (t ∷ front) s.key ≡ none → (stream_of front s.key ≡ none → Distinct (front ++ (s ∷ []))) → Distinct ((t ∷ front) ++ (s ∷ []))
+    go : Same t.key s.key → stream_of (t ∷ front) s.key ≡ None → (stream_of front s.key ≡ None → Distinct (front ++ (s ∷ []))) → Distinct ((t ∷ front) ++ (s ∷ []))
     go (alike p e) f more = some_none (rw e at f)
     go (unlike p e) f more =
         (find-append front (s ∷ []) t.key d.0 ∙ rw (ne_eqb s.key t.key (λ q. p (sym q))), more (rw e at f))
@@ -60,24 +60,24 @@ module _ (table words : List ℕ) where
 
   -- ---- no slot below n has the key; the first that has it is slot k
 
-  none_below : (key n : ℕ) → ((k : ℕ) → k < n → get_or table k 0 ≡ key → ⊥) → stream_of (streams_below table words n) key ≡ none
+  none_below : (key n : ℕ) → ((k : ℕ) → k < n → get_or table k 0 ≡ key → ⊥) → stream_of (streams_below table words n) key ≡ None
   unfolding streams_below
   none_below key zero h = refl
   none_below key (suc n) h = go (same (get_or table n 0) 0) (none_below key n (λ k l. h k (omega arith)))
     where
-      go : Same (get_or table n 0) 0 → stream_of (streams_below table words n) key ≡ none
-          → stream_of (streams_below table words n ++ cond (has_key table 0 n) [] (stream n ∷ [])) key ≡ none
+      go : Same (get_or table n 0) 0 → stream_of (streams_below table words n) key ≡ None
+          → stream_of (streams_below table words n ++ cond (has_key table 0 n) [] (stream n ∷ [])) key ≡ None
       go (alike p e) more = rw e (find-append (streams_below table words n) [] key more)
       go (unlike p e) more = rw e (find-append (streams_below table words n) (stream n ∷ []) key more ∙ rw (ne_eqb (get_or table n 0) key (h n (omega arith))))
 
   first_below : (key n k : ℕ) → (key ≡ 0 → ⊥) → k < n → get_or table k 0 ≡ key → ((j : ℕ) → j < k → get_or table j 0 ≡ key → ⊥)
-      → stream_of (streams_below table words n) key ≡ some (stored_at table words k)
+      → stream_of (streams_below table words n) key ≡ Some (stored_at table words k)
   unfolding streams_below
   first_below key zero k z h e b = absurd (omega arith)
   first_below key (suc n) k z h e b = go (same k n) (λ l. first_below key n k z l e b)
     where
-      go : Same k n → (k < n → stream_of (streams_below table words n) key ≡ some (stored_at table words k))
-          → stream_of (streams_below table words n ++ cond (has_key table 0 n) [] (stream n ∷ [])) key ≡ some (stored_at table words k)
+      go : Same k n → (k < n → stream_of (streams_below table words n) key ≡ Some (stored_at table words k))
+          → stream_of (streams_below table words n ++ cond (has_key table 0 n) [] (stream n ∷ [])) key ≡ Some (stored_at table words k)
       go (alike p t) more =
           let f : get_or table n 0 ≡ key = ap (λ i. get_or table i 0) (sym p) ∙ e in
           rw (ne_eqb (get_or table n 0) 0 (λ q. z (sym f ∙ q)))

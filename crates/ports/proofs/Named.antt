@@ -1,8 +1,9 @@
 -- Each refusal of a received packet is one of the names, and so its answer is the meaning of one. Assumes nothing.
+use Rattle.refusal.specs.declared.Fault.{Fault}
+use Rattle.std.specs.Prelude.{Option, None, Some, Result, Ok, Err}
 use mathlib.Core.Path.{◌≡◌, refl, ap}
 use mathlib.Core.Bool.{Bool, true, false, not, ◌&&◌}
 use mathlib.Core.List.{List}
-use mathlib.Core.Option.{Option, none, some}
 use Prim.Native.Nat.{ℕ, ◌+◌}
 use lib.Dec.{ltb, leb}
 use lib.ListN.{length}
@@ -40,16 +41,16 @@ arrived_named lent room port packet =
     (by_both _ _ (by_guard (ltb 1 port) Port 0) (read_named packet))))
 
 refusals_named : (kind : Kind) (stream : Option (List ℕ)) (holds : ℕ) (full : Bool) (part room : ℕ) → Named (refusals kind stream holds full part room)
-refusals_named start none holds full part room =
+refusals_named start None holds full part room =
     by_both _ _ (by_guard (leb 12 holds) Share 0) (by_both _ _ (by_guard full Full 0) (by_guard (ltb part 4) Room 0))
-refusals_named start (some words) holds full part room = by_guard (ltb part 4) Room 0
-refusals_named continue none holds full part room = named Closed
-refusals_named continue (some words) holds full part room = by_guard (ltb part (length words + 4)) Room 0
-refusals_named end none holds full part room = named Closed
-refusals_named end (some words) holds full part room = by_guard (ltb room (length words + 4)) Room 0
-refusals_named (unexpected_end valid) none holds full part room = named Closed
-refusals_named (unexpected_end true) (some words) holds full part room = by_guard (ltb room (length words + 4)) Room 0
-refusals_named (unexpected_end false) (some words) holds full part room = accepted
+refusals_named start (Some words) holds full part room = by_guard (ltb part 4) Room 0
+refusals_named continue None holds full part room = named Closed
+refusals_named continue (Some words) holds full part room = by_guard (ltb part (length words + 4)) Room 0
+refusals_named end None holds full part room = named Closed
+refusals_named end (Some words) holds full part room = by_guard (ltb room (length words + 4)) Room 0
+refusals_named (unexpected_end valid) None holds full part room = named Closed
+refusals_named (unexpected_end true) (Some words) holds full part room = by_guard (ltb room (length words + 4)) Room 0
+refusals_named (unexpected_end false) (Some words) holds full part room = accepted
 refusals_named complete stream holds full part room = by_guard (ltb room 4) Room 0
 
 pub receive_named : (table words : List ℕ) (port : ℕ) (packet output : List ℕ) → Named (receive table words port packet output).0
@@ -60,17 +61,17 @@ receive_named table words port packet output = go (arrived (length words) (lengt
     go (refused n q) (named r) = named r
     go (gives p) h = writes_named _ _ _ _ (refusals_named p.kind _ _ _ _ _)
 
-abbrev pub received_back : Answer Reply → Received
-received_back (gives kept) = received.Kept
-received_back (gives dropped) = received.Dropped
-received_back (gives (handed_out words)) = received.HandedOut words
-received_back (refused number place) = received.Refused (fault_back number place)
+abbrev pub received_back : Answer Reply → Result Received Fault
+received_back (gives kept) = Ok received.Kept
+received_back (gives dropped) = Ok received.Dropped
+received_back (gives (handed_out words)) = Ok (received.HandedOut words)
+received_back (refused number place) = Err (fault_back number place)
 
-pub received-back : (x : Received) → received_back (received_meaning x) ≡ x
-received-back received.Kept = refl
-received-back received.Dropped = refl
-received-back (received.HandedOut words) = refl
-received-back (received.Refused fault) = ap received.Refused (fault-back fault)
+pub received-back : (x : Result Received Fault) → received_back (received_meaning x) ≡ x
+received-back (Ok received.Kept) = refl
+received-back (Ok received.Dropped) = refl
+received-back (Ok (received.HandedOut words)) = refl
+received-back (Err fault) = ap Err (fault-back fault)
 
 pub received_meant : (answer : Answer Reply) → Named answer → received_meaning (received_back answer) ≡ answer
 received_meant (gives kept) h = refl

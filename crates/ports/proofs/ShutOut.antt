@@ -1,4 +1,6 @@
 -- Wrong outcomes that the promises shut out. Assumes nothing.
+use Rattle.refusal.specs.declared.Fault.{Fault}
+use Rattle.std.specs.Prelude.{Result, Ok, Err}
 use mathlib.Core.Path.{◌≡◌, sym, ap, ◌∙◌}
 use mathlib.Core.Bool.{not}
 use mathlib.Core.List.{List, [], ◌∷◌, ◌++◌}
@@ -19,7 +21,7 @@ use Rattle.ports.specs.Table as definition
 use Rattle.ports.specs.Meaning.{received_meaning}
 use Rattle.ports.specs.Samples.{one_stream, words64}
 use Rattle.ports.specs.declared.Received.{Received}
-use Rattle.ports.specs.declared.Received.TheVariants.{Kept, HandedOut, Refused}
+use Rattle.ports.specs.declared.Received.TheVariants.{Kept, HandedOut}
 use Rattle.ports.proofs.Calls.{clear_given, receive_given}
 use Rattle.ports.proofs.clear.Kinds as clear-kinds
 use Rattle.ports.proofs.clear.Reads as clear
@@ -36,11 +38,11 @@ number kept = 0
 number dropped = 1
 number (handed_out n) = n + 2
 
-abbrev Says : List ℕ → List ℕ → ℕ → List ℕ → List ℕ → Received → Type 0
+abbrev Says : List ℕ → List ℕ → ℕ → List ℕ → List ℕ → Result Received Fault → Type 0
 Says table words port packet output wrong =
     tight.ShutOut 4 receive-kinds.ps receive-kinds.r receive.Post (λ κs a x s. receive_given table words port packet output κs a × (x ≡ wrong))
 
-says : (table words : List ℕ) (port : ℕ) (packet output : List ℕ) (wrong : Received)
+says : (table words : List ℕ) (port : ℕ) (packet output : List ℕ) (wrong : Result Received Fault)
     → T (not (eqb (told number (received_meaning wrong)) (told number (definition.receive table words port packet output).0))) → Says table words port packet output wrong
 says table words port packet output wrong t κs a x s w p =
     let g = w.0 in
@@ -67,8 +69,8 @@ puts table words port packet output k word t κs a x s w p =
     let g = w.0 in
     differ (λ (n : ℕ). n) t (sym w.1 ∙ ap (λ (o : Outcome). get_or o.1.2 k 0) (rw (g.0, g.1, g.2, g.3, g.4) at p))
 
-abbrev fault : Refusal → Received
-fault refusal = Refused (record { refusal = refusal; place = 0 })
+abbrev fault : Refusal → Result Received Fault
+fault refusal = Err (record { refusal = refusal; place = 0 })
 
 -- a packet of a first word and zeros
 abbrev packet : ℕ → List ℕ
@@ -90,15 +92,15 @@ record Shuts : Type 0 where
   closes : Leaves one_stream words64 0 (packet 0x50020944) (replicate 3 9) 0 0
   restart : Says all words64 1 (packet 0x50120344) [] (fault Full)
   restart_share : Says all words64 0 (packet 0x50120B44) [] (fault Share)
-  thirteenth : Says (replicate 3 0 ++ (0x10000 ∷ 0x10001 ∷ 0x10002 ∷ 0x10003 ∷ 0x10004 ∷ 0x10005 ∷ 0x10006 ∷ 0x10007 ∷ 0x10008 ∷ 0x10009 ∷ 0x1000A ∷ 0x1000B ∷ 0 ∷ replicate 16 4)) words64 0 (packet 0x50120C44) [] Kept
+  thirteenth : Says (replicate 3 0 ++ (0x10000 ∷ 0x10001 ∷ 0x10002 ∷ 0x10003 ∷ 0x10004 ∷ 0x10005 ∷ 0x10006 ∷ 0x10007 ∷ 0x10008 ∷ 0x10009 ∷ 0x1000A ∷ 0x1000B ∷ 0 ∷ replicate 16 4)) words64 0 (packet 0x50120C44) [] (Ok Kept)
   drop_room : Says one_stream words64 0 (packet 0x503F0900) [] (fault Room)
-  drop_hands : Says one_stream words64 0 (packet 0x503F0900) (replicate 8 9) (HandedOut 8)
+  drop_hands : Says one_stream words64 0 (packet 0x503F0900) (replicate 8 9) (Ok (HandedOut 8))
   room_first : Says one_stream words64 1 (packet 0x50320944) [] (fault Room)
-  one_port : Says one_stream (replicate 128 7) 1 (packet 0x50220944) [] Kept
+  one_port : Says one_stream (replicate 128 7) 1 (packet 0x50220944) [] (Ok Kept)
   not_freed : Leaves one_stream words64 0 (packet 0x50320944) (replicate 8 9) 0 0x10009
   old_words : Puts one_stream words64 0 (packet 0x50320944) (replicate 8 9) 0 9
   refusal_writes : Leaves one_stream words64 0 (packet 0x50220944) [] 16 8
-  nobody : Says (5 ∷ (replicate 15 0x20000 ++ replicate 16 0)) words64 0 (packet 0x50120944) [] Kept
+  nobody : Says (5 ∷ (replicate 15 0x20000 ++ replicate 16 0)) words64 0 (packet 0x50120944) [] (Ok Kept)
 
 shuts : Shuts
 unfolding definition.receive definition.accept arrived definition.stream_at definition.slot_of first_where definition.held_by definition.count definition.stored_at read_packet8 bad_type bad_count blank octets size_of

@@ -1,8 +1,8 @@
 -- A call on a table is a step on the open streams that the table shows. Assumes nothing.
+use Rattle.std.specs.Prelude.{Option, None, Some}
 use mathlib.Core.Path.{◌≡◌, refl, sym, ap, ◌∙◌, subst}
 use mathlib.Core.Bool.{Bool, true}
 use mathlib.Core.List.{List, ◌++◌}
-use mathlib.Core.Option.{Option, none, some}
 use Prim.Native.Nat.{ℕ, zero, suc, ◌+◌, ◌≤◌, ◌<◌}
 use native.Mathlib.Omega.{arith}
 use lib.Dec.{ltb, leb}
@@ -105,24 +105,24 @@ module _ (table words packet : List ℕ) (port key room : ℕ) (not-Free : key �
   unfolding refuses
   opens (under h e) v =
       let fits = ltb-false (part_of words) 4 (guard_passed _ 14 0 (rw (look_found table words key h) at v)) in
-      rw e (renew (ap some all_four) (begun_changes key table words not-Free sound k h (again (slot_at table key h)) four (omega (arith, size_four)) fits))
+      rw e (renew (ap Some all_four) (begun_changes key table words not-Free sound k h (again (slot_at table key h)) four (omega (arith, size_four)) fits))
   opens (over h e) v =
       let w : guard (leb 12 (held_by table port)) 31 0 ▷ guard (leb 16 (slot_of table 0)) 23 0 ▷ guard (ltb (part_of words) 4) 14 0 ≡ pass = rw (look_none table words key h) at v in
       let a = pass_both (guard (leb 12 (held_by table port)) 31 0) (guard (leb 16 (slot_of table 0)) 23 0 ▷ guard (ltb (part_of words) 4) 14 0) w in
       let b = pass_both (guard (leb 16 (slot_of table 0)) 23 0) (guard (ltb (part_of words) 4) 14 0) a.1 in
       let f = leb-false 16 (slot_of table 0) (guard_passed _ 23 0 b.0) in
       let fits = ltb-false (part_of words) 4 (guard_passed _ 14 0 b.1) in
-      rw e (renew (ap some all_four) (begun_changes key table words not-Free sound (slot_of table 0) f (fresh (slot_at table 0 f) h) four (omega (arith, size_four)) fits))
+      rw e (renew (ap Some all_four) (begun_changes key table words not-Free sound (slot_of table 0) f (fresh (slot_at table 0 f) h) four (omega (arith, size_four)) fits))
 
   grows : Side k 16 → refuses continue ≡ pass → After continue
   unfolding refuses
   grows (under h e) v =
       let fits = ltb-false (part_of words) _ (guard_passed (ltb (part_of words) (length (stored_at table words k) + 4)) 14 0 (rw (look_found table words key h) at v)) in
       let c = grown_changes key table words not-Free sound h four 4 (omega (arith, size_four)) (omega (arith, fits, length-stored table words k h)) in
-      rw (look_found table words key h) (renew (ap (λ (x : List ℕ). some (stored_at table words k ++ x)) all_four) c)
+      rw (look_found table words key h) (renew (ap (λ (x : List ℕ). Some (stored_at table words k ++ x)) all_four) c)
   grows (over h e) v = never_refused (rw (look_none table words key h) at v)
 
-  closes : Side k 16 → Changed key table words (freed table k) words none
+  closes : Side k 16 → Changed key table words (freed table k) words None
   closes (under h e) = rw e (closed_changes key table words not-Free sound h)
   closes (over h e) =
       let n = look_none table words key h in

@@ -5,11 +5,10 @@ use mathlib.Core.List.{List}
 use Prim.Native.Nat.{ℕ, zero, suc, ◌+◌, ◌≤◌, ◌<◌}
 use native.Mathlib.Numerals.{add-one}
 use native.Mathlib.Omega.{arith}
-use lib.Dec.{eqb, ltb}
+use lib.Dec.{eqb}
 use lib.ListN.{length, get_or, set}
 use lib.Seq.{get_or-set_same, get_or-set_other}
 use borrow.Author.Tests.{eqb-true, eqb-false, eq-eqb, ne_eqb}
-use Rattle.ump.specs.Check.{first_where}
 use Rattle.ump.proofs.First.{Side, under, over, side, first_is, first_none, first_before, first_at, first_cong, first_le}
 use Rattle.ports.specs.Table.{has_key, slot_of, count}
 
@@ -166,10 +165,6 @@ keys_set test table s x whole h =
 -- ---- a walk over the slots: one more of them
 
 module _ (f : ℕ → Bool) (n : ℕ) where
-  pub first_more : {i r : ℕ} → i ≡ first_where f n → r ≡ cond (ltb i n) i (cond (f n) n (suc n)) → r ≡ first_where f (n + 1)
-  unfolding first_where
-  first_more e q = rw (add-one, ← e) q
-
   pub count_more : {c r : ℕ} → c ≡ count f n → c ≤ n → r ≡ cond (f n) (suc c) c → (r ≡ count f (n + 1)) × (r ≤ n + 1)
   unfolding count
   count_more {c} {r} e h q = (rw (add-one, ← e) q, within (f n) q)

@@ -1,23 +1,34 @@
 -- The cases of receiving a packet, over plain values. Assumes nothing.
-use mathlib.Core.Path.{◌≡◌, refl, sym, ap, ◌∙◌}
+use Rattle.std.specs.Prelude.{Option, None, Some, Result, Err, IfOk}
+use Rattle.std.specs.Result.{IsErrAnd}
+use Rattle.std.specs.Option.{ok_or}
+use Rattle.std.proofs.lemmas.Result.{err_from_is_err_and}
+use Rattle.std.proofs.lemmas.Slice.{put_mid-paste}
+use mathlib.Core.Path.{◌≡◌, refl, sym, ◌∙◌}
 use mathlib.Core.Bool.{Bool, true, false, cond}
-use mathlib.Core.List.{List, ◌++◌}
-use mathlib.Core.Option.{none, some}
-use Prim.Native.Nat.{ℕ, ◌+◌, ◌*◌, ◌≤◌, ◌<◌}
+use mathlib.Core.List.{List, ◌++◌, append_assoc}
+use Prim.Native.Nat.{ℕ, ◌+◌, ◌-◌, ◌*◌, ◌≤◌, ◌<◌}
 use native.Mathlib.Omega.{arith}
+use borrow.Rule.Slice.PartMut.{put_mid}
 use lib.Dec.{ltb, leb}
-use lib.ListN.{length, take, drop, set, length-append, length-drop, length-take}
-use lib.Seq.{paste, take_all, take-length, take-paste, length-take-le}
-use borrow.Author.Tests.{lt-ltb, le-ltb, le-leb, lt-leb, leb-false}
+use lib.ListN.{length, take, drop, set, length-append, length-take}
+use lib.Seq.{paste, take_all, take_at, drop_at, drop-drop}
+use borrow.Author.Tests.{lt-ltb, le-ltb, le-leb, lt-leb}
+use Rattle.refusal.specs.declared.Fault.{Fault}
+use Rattle.refusal.specs.declared.Refusal.{Refusal}
+use Rattle.refusal.specs.declared.Refusal.TheVariants.{Full, Closed}
+use Rattle.refusal.specs.Meaning.{at_start}
 use Rattle.refusal.specs.Answer.{Answer, gives, refused, Verdict, ◌▷◌, guard, verdict}
-use Rattle.refusal.proofs.Laws.{guard_passed, pass_both, given_passes}
-use Rattle.ump.specs.Single.{complete, start, continue, end, unexpected_end, Packet, read_packet8}
+use Rattle.refusal.proofs.Laws.{pass_both, given_passes}
+use Rattle.ump.specs.Single.{Kind, complete, start, continue, end, unexpected_end, Packet, read_packet8}
 use Rattle.ump.proofs.First.{Side, under, over, side}
 use Rattle.ports.specs.Streams.{refusals, kept, dropped, handed_out, onto, arrived, key_at}
 use Rattle.ports.specs.Table.{slot_of, held_by, part_of, used_at, stored_at, stream_at, new_slot, accept, receive}
-use Rattle.ports.specs.Steps.{slot_for}
-use Rattle.ports.proofs.Parts.{part_inside, after_paste, length-stored}
-use Rattle.ports.proofs.Looks.{look_found, look_none}
+use Rattle.ports.specs.Meaning.{received_meaning}
+use Rattle.ports.specs.declared.Received.{Received}
+use Rattle.ports.specs.Steps.{found_slot, slot_meaning, slot_for}
+use Rattle.ports.proofs.Parts.{length-stored}
+use Rattle.ports.proofs.Looks.{look_found, look_none, slot_some, no_slot}
 
 -- ---- the slot of a start
 
@@ -31,36 +42,26 @@ module _ (table : List ℕ) (port key : ℕ) {k : ℕ} (is : k ≡ slot_of table
     unfolding slot_for
     for_share h = rw (← is, ← counts, le-ltb k 16 new, le-leb 12 holds h)
 
-    pub for_full : {free : ℕ} → holds < 12 → free ≡ slot_of table 0 → 16 ≤ free → refused 23 0 ≡ slot_for table port key
-    unfolding slot_for
-    for_full {free} h f l = rw (← is, ← counts, ← f, le-ltb k 16 new, lt-leb 12 holds h, le-leb 16 free l)
-
-    pub for_fresh : {free : ℕ} → holds < 12 → free ≡ slot_of table 0 → free < 16 → gives free ≡ slot_for table port key
-    unfolding slot_for
-    for_fresh {free} h f l = rw (← is, ← counts, ← f, le-ltb k 16 new, lt-leb 12 holds h, lt-leb 16 free l)
+    -- the first free slot, or Full
+    pub for_free : {free : Option ℕ} → holds < 12 → free ≡ found_slot table 0
+        → (slot_meaning (ok_or free Full) ≡ slot_for table port key) × IfOk (ok_or free Full) (λ slot. slot < 16)
+    unfolding slot_for slot_of
+    for_free h e = rw (← is, ← counts, e, le-ltb k 16 new, lt-leb 12 holds h) (go (side (slot_of table 0) 16))
+      where
+        go : Side (slot_of table 0) 16
+            → (slot_meaning (ok_or (found_slot table 0) Full) ≡ guard (leb 16 (slot_of table 0)) 23 0 ▷ gives (slot_of table 0)) × IfOk (ok_or (found_slot table 0) Full) (λ slot. slot < 16)
+        go (under l t) = rw (t, lt-leb 16 (slot_of table 0) l) (refl, l)
+        go (over l t) = rw (t, le-leb 16 (slot_of table 0) l) (refl, tt)
 
 -- ---- words handed out
 
--- the first four words of a packet, and of those
-pub paste_four : (words packet : List ℕ) (at : ℕ) → paste words at packet 4 ≡ paste words at (take 4 packet) 4
-paste_four words packet at =
-    let e : take 4 (take 4 packet) ≡ take 4 packet = take_all 4 (take 4 packet) (simp length-take (omega arith)) in
-    rw e
-
-pub paste_onto : (words output : List ℕ) (n : ℕ) → length words ≡ n → paste output 0 words n ≡ onto words output
-paste_onto words output n e =
-    let z : 0 + length words ≡ length words = omega arith in
-    rw (← e, take-length words, z)
-
--- in two copies
-pub paste_two : (output a packet : List ℕ) (used n : ℕ) → used ≤ length a → n ≤ length packet
-    → paste (paste output 0 a used) used packet n ≡ onto (take used a ++ take n packet) output
-paste_two output a packet used n ha hp =
-    let z : 0 + used ≡ used = omega arith in
-    let size : length (take used a ++ take n packet) ≡ used + n = simp length-append (omega (arith, length-take-le used a ha, length-take-le n packet hp)) in
-    let front : take used (paste output 0 a used) ≡ take used a = ap (λ (i : ℕ). take i (paste output 0 a used)) (sym z) ∙ take-paste output 0 a used (omega arith) ha in
-    let back : drop (used + n) (paste output 0 a used) ≡ drop (used + n) output = after_paste output 0 a used (used + n) (omega arith) ha (omega arith) in
-    rw (front, back, size)
+-- words in front of an output, and a packet of four words behind them
+pub handed_two : (output a packet : List ℕ) (used : ℕ) → length a ≡ used → length packet ≡ 4
+    → put_mid used (used + 4 - used) (a ++ drop used output) packet ≡ onto (a ++ packet) output
+handed_two output a packet used h four =
+    let f : used + 4 - used ≡ 4 = omega arith in
+    let n : length (a ++ packet) ≡ used + 4 = simp length-append (omega arith) in
+    rw (f, take_at a (drop used output) used h, drop_at a (drop used output) used h, n, drop-drop 4 used output, append_assoc)
 
 -- ---- a packet by its kind
 
@@ -87,96 +88,95 @@ module _ (table words : List ℕ) (port key : ℕ) (packet output : List ℕ) wh
   start_refused e = rw (start_verdict, ← e)
 
   module _ {s : ℕ} (e : gives s ≡ slot_for table port key) where
-    start_slot : (new_slot table (slot_of table key) ≡ s) × (s < 16)
+    start_slot : new_slot table (slot_of table key) ≡ s
     unfolding slot_for
     start_slot = go (side (slot_of table key) 16) (sym e)
       where
         go : Side (slot_of table key) 16
             → cond (ltb (slot_of table key) 16) (gives (slot_of table key)) (guard (leb 12 (held_by table port)) 31 0 ▷ guard (leb 16 (slot_of table 0)) 23 0 ▷ gives (slot_of table 0)) ≡ gives s
-            → (new_slot table (slot_of table key) ≡ s) × (s < 16)
-        go (under h t) q = let w : slot_of table key ≡ s = cc (rw t at q) in (rw t w, rw (← w) h)
+            → new_slot table (slot_of table key) ≡ s
+        go (under h t) q = let w : slot_of table key ≡ s = cc (rw t at q) in rw t w
         go (over h t) q =
             let rest : Answer ℕ = guard (leb 16 (slot_of table 0)) 23 0 ▷ gives (slot_of table 0) in
-            let f = given_passes (guard (leb 16 (slot_of table 0)) 23 0) (pass_both (guard (leb 12 (held_by table port)) 31 0) rest (rw t at q)).1 in
-            (rw t f.1, rw (← f.1) (leb-false 16 (slot_of table 0) (guard_passed _ 23 0 f.0)))
-
-    pub start_small : s < 16
-    start_small = start_slot.1
+            rw t (given_passes (guard (leb 16 (slot_of table 0)) 23 0) (pass_both (guard (leb 12 (held_by table port)) 31 0) rest (rw t at q)).1).1
 
     pub start_room : part_of words < 4 → (refused 14 0, (table, words, output)) ≡ accept start port key table words packet output
     unfolding accept
     start_room h = rw (start_verdict, ← e, lt-ltb (part_of words) 4 h)
 
-    pub start_done : 4 ≤ part_of words
-        → (gives kept, (set (set table s key) (16 + s) 4, paste words (part_of words * s) packet 4, output)) ≡ accept start port key table words packet output
+  -- no slot has the key: Closed, where its kind asks for one
+  pub closed : (kind : Kind) → refusals kind None (held_by table port) (leb 16 (slot_of table 0)) (part_of words) (length output) ≡ refused 30 0
+      → found_slot table key ≡ None → (refused 30 0, (table, words, output)) ≡ accept kind port key table words packet output
+  unfolding accept
+  closed kind e none = rw (look_none table words key (no_slot table key none), e)
+
+  module _ {k : ℕ} (is : found_slot table key ≡ Some k) where
+    at : slot_of table key ≡ k
+    at = (slot_some table key is).0
+
+    pub slot_small : k < 16
+    slot_small = (slot_some table key is).1
+
+    there : stream_at table words key ≡ Some (stored_at table words k)
+    there = rw (← at) (look_found table words key (rw at slot_small))
+
+    pub drop_done : (gives dropped, (set table k 0, words, output)) ≡ accept (unexpected_end false) port key table words packet output
     unfolding accept
-    start_done h = rw (start_verdict, ← e, le-ltb (part_of words) 4 h, start_slot.0, paste_four words packet (part_of words * s))
+    drop_done = rw (there, at, lt-ltb k 16 slot_small)
 
-  module _ {k : ℕ} (is : k ≡ slot_of table key) where
-    module _ (h : 16 ≤ k) where
-      none_there : stream_at table words key ≡ none
-      none_there = look_none table words key (rw (← is) h)
+    module _ {used : ℕ} (uses : used ≡ used_at table (part_of words) k) where
+      size : length (stored_at table words k) ≡ used
+      size = length-stored table words k slot_small ∙ sym uses
 
-      pub closed_continue : (refused 30 0, (table, words, output)) ≡ accept continue port key table words packet output
+      pub continue_room : part_of words < used + 4 → (refused 14 0, (table, words, output)) ≡ accept continue port key table words packet output
       unfolding accept
-      closed_continue = rw none_there
+      continue_room l = rw (there, size, lt-ltb (part_of words) (used + 4) l)
 
-      pub closed_end : (refused 30 0, (table, words, output)) ≡ accept end port key table words packet output
+    pub end_room : {stored : List ℕ} → stored ≡ stored_at table words k → length output < length stored + 4
+        → (refused 14 0, (table, words, output)) ≡ accept end port key table words packet output
+    unfolding accept
+    end_room {stored} e l = rw (there, ← e, lt-ltb (length output) (length stored + 4) l)
+
+  -- a packet of four words
+  module _ (long : length packet ≡ 4) where
+    four : take 4 packet ≡ packet
+    four = take_all 4 packet (omega arith)
+
+    stored : (n : ℕ) → put_mid n (n + 4 - n) words packet ≡ paste words n packet 4
+    stored n = put_mid-paste n (n + 4 - n) words packet packet 4 refl (omega arith) (sym long)
+
+    pub start_done : {s : ℕ} → gives s ≡ slot_for table port key → 4 ≤ part_of words
+        → (gives kept, (set (set table s key) (16 + s) 4, put_mid (part_of words * s) (part_of words * s + 4 - part_of words * s) words packet, output))
+        ≡ accept start port key table words packet output
+    unfolding accept
+    start_done {s} e h = rw (start_verdict, ← e, le-ltb (part_of words) 4 h, start_slot e, four, stored (part_of words * s))
+
+    pub complete_alone : found_slot table key ≡ None → 4 ≤ length output
+        → (gives (handed_out 4), (table, words, packet ++ drop 4 output)) ≡ accept complete port key table words packet output
+    unfolding accept
+    complete_alone none l = rw (le-ltb (slot_of table key) 16 (no_slot table key none), le-ltb (length output) 4 l, four, long)
+
+    module _ {k : ℕ} (is : found_slot table key ≡ Some k) where
+      pub complete_closes : 4 ≤ length output
+          → (gives (handed_out 4), (set table k 0, words, packet ++ drop 4 output)) ≡ accept complete port key table words packet output
       unfolding accept
-      closed_end = rw none_there
-
-      pub closed_drop : (refused 30 0, (table, words, output)) ≡ accept (unexpected_end false) port key table words packet output
-      unfolding accept
-      closed_drop = rw none_there
-
-      pub complete_alone : 4 ≤ length packet → 4 ≤ length output → (gives (handed_out 4), (table, words, paste output 0 packet 4)) ≡ accept complete port key table words packet output
-      unfolding accept
-      complete_alone long l = rw (← is, le-ltb k 16 h, le-ltb (length output) 4 l, paste_four output packet 0, paste_onto (take 4 packet) output 4 (length-take-le 4 packet long), length-take-le 4 packet long)
-
-    module _ (h : k < 16) where
-      there : stream_at table words key ≡ some (stored_at table words k)
-      there = rw is (look_found table words key (rw (← is) h))
-
-      pub drop_done : (gives dropped, (set table k 0, words, output)) ≡ accept (unexpected_end false) port key table words packet output
-      unfolding accept
-      drop_done = rw (there, ← is, lt-ltb k 16 h)
-
-      pub complete_closes : 4 ≤ length packet → 4 ≤ length output → (gives (handed_out 4), (set table k 0, words, paste output 0 packet 4)) ≡ accept complete port key table words packet output
-      unfolding accept
-      complete_closes long l = rw (← is, lt-ltb k 16 h, le-ltb (length output) 4 l, paste_four output packet 0, paste_onto (take 4 packet) output 4 (length-take-le 4 packet long), length-take-le 4 packet long)
+      complete_closes l = rw (at is, lt-ltb k 16 (slot_small is), le-ltb (length output) 4 l, four, long)
 
       module _ {used : ℕ} (uses : used ≡ used_at table (part_of words) k) where
-        size : length (stored_at table words k) ≡ used
-        size = length-stored table words k h ∙ sym uses
-
-        pub continue_room : part_of words < used + 4 → (refused 14 0, (table, words, output)) ≡ accept continue port key table words packet output
-        unfolding accept
-        continue_room l = rw (there, size, lt-ltb (part_of words) (used + 4) l)
-
         pub continue_done : used + 4 ≤ part_of words
-            → (gives kept, (set table (16 + k) (used + 4), paste words (part_of words * k + used) packet 4, output)) ≡ accept continue port key table words packet output
+            → let n = part_of words * k + used in
+            (gives kept, (set table (16 + k) (used + 4), put_mid n (n + 4 - n) words packet, output)) ≡ accept continue port key table words packet output
         unfolding accept
-        continue_done l = rw (there, size, ← is, ← uses, le-ltb (part_of words) (used + 4) l, paste_four words packet (part_of words * k + used))
+        continue_done l =
+            rw (there is, size is uses, at is, ← uses, le-ltb (part_of words) (used + 4) l, four, stored (part_of words * k + used))
 
-        pub end_room : length output < used + 4 → (refused 14 0, (table, words, output)) ≡ accept end port key table words packet output
-        unfolding accept
-        end_room l = rw (there, size, lt-ltb (length output) (used + 4) l)
-
-        pub used_inside : part_of words * k + used ≤ length words
-        used_inside = omega (arith, part_inside (length words) k h)
-
-        handed-two : 4 ≤ length packet
-            → paste (paste output 0 (drop (part_of words * k) words) used) used packet 4 ≡ onto (stored_at table words k ++ take 4 packet) output
-        unfolding stored_at
-        handed-two long = rw (← uses) (paste_two output (drop (part_of words * k) words) packet used 4 (simp length-drop (omega (arith, used_inside))) long)
-
-        pub end_done : used + 4 ≤ length output → 4 ≤ length packet
-            → (gives (handed_out (used + 4)), (set table k 0, words, paste (paste output 0 (drop (part_of words * k) words) used) used packet 4))
-            ≡ accept end port key table words packet output
-        unfolding accept
-        end_done l long =
-            let all : length (stored_at table words k ++ take 4 packet) ≡ used + 4 = simp length-append (omega (arith, size, length-take-le 4 packet long)) in
-            rw (handed-two long, there, size, all, ← is, lt-ltb k 16 h, le-ltb (length output) (used + 4) l)
+      pub end_done : {stored : List ℕ} → stored ≡ stored_at table words k → length stored + 4 ≤ length output
+          → let n = length stored in
+          (gives (handed_out (n + 4)), (set table k 0, words, put_mid n (n + 4 - n) (stored ++ drop n output) packet)) ≡ accept end port key table words packet output
+      unfolding accept
+      end_done {stored} e l =
+          let all : length (stored ++ packet) ≡ length stored + 4 = simp length-append (omega arith) in
+          rw (handed_two output stored packet (length stored) refl long, there is, ← e, four, all, at is, lt-ltb k 16 (slot_small is), le-ltb (length output) (length stored + 4) l)
 
   pub complete_room : length output < 4 → (refused 14 0, (table, words, output)) ≡ accept complete port key table words packet output
   unfolding accept
@@ -190,6 +190,22 @@ module _ (table words : List ℕ) (port key : ℕ) (packet output : List ℕ) wh
       go : Side (slot_of table key) 16 → accept end port key table words packet output ≡ accept (unexpected_end true) port key table words packet output
       go (under h t) = rw (look_found table words key h)
       go (over h t) = rw (look_none table words key h)
+
+-- what `find(..).ok_or(refusal)?` passes on: that refusal, where no slot has the key
+pub passed_none : (found : Option ℕ) {refusal given : Refusal} → ◌≡◌ {A = Result ℕ Refusal} (Err refusal) (ok_or found given)
+    → (found ≡ None) × (refusal ≡ given)
+passed_none None e = (refl, cc)
+passed_none (Some k) e = cc
+
+-- and so Closed
+pub passed_closed : (r : Result Received Fault) {refusal : Refusal} {found : Option ℕ} (table words : List ℕ) (port key : ℕ) (packet output : List ℕ) (kind : Kind)
+    → refusals kind None (held_by table port) (leb 16 (slot_of table 0)) (part_of words) (length output) ≡ refused 30 0
+    → IsErrAnd r (λ y. y ≡ at_start refusal) → ◌≡◌ {A = Result ℕ Refusal} (Err refusal) (ok_or found Closed) → found ≡ found_slot table key
+    → (received_meaning r, (table, words, output)) ≡ accept kind port key table words packet output
+passed_closed r {found = found} table words port key packet output kind e q o f =
+    let p = err_from_is_err_and r q in
+    let n = passed_none found o in
+    rw (p.1, p.2, n.1) (closed table words port key packet output kind e (sym f ∙ n.0))
 
 -- ---- the whole call
 
@@ -213,6 +229,9 @@ module _ (table words : List ℕ) (port : ℕ) (packet output : List ℕ) where
         unfolding receive arrived
         port_refused h = rw (le-ltb 16384 (length words) fits, le-ltb 16384 (length output) fits', ← e, lt-ltb 1 port h)
 
-        pub port_taken : port ≤ 1 → accept p.kind port (key_at port p) table words packet output ≡ receive table words port packet output
-        unfolding receive arrived
-        port_taken h = rw (le-ltb 16384 (length words) fits, le-ltb 16384 (length output) fits', ← e, le-ltb 1 port h)
+        -- of its four words
+        pub port_taken : port ≤ 1 → 4 ≤ length packet → accept p.kind port (key_at port p) table words (take 4 packet) output ≡ receive table words port packet output
+        unfolding receive arrived accept
+        port_taken h long =
+            let four : take 4 (take 4 packet) ≡ take 4 packet = take_all 4 (take 4 packet) (simp length-take (omega arith)) in
+            rw (le-ltb 16384 (length words) fits, le-ltb 16384 (length output) fits', ← e, le-ltb 1 port h, four)

@@ -1,7 +1,6 @@
 -- Runs of calls on one table, what one port sees of them, and the packets of a stream since its last start.
 -- Assumes nothing.
-use Rattle.std.specs.Prelude.{Bool, false, cond, List, [], ◌∷◌, map, ℕ, eqb, take}
-use Rattle.std.proofs.Math.Option.{Option}
+use Rattle.std.specs.Prelude.{Option, Bool, false, cond, List, [], ◌∷◌, map, ℕ, eqb, take}
 use Rattle.refusal.specs.Answer.{Answer, gives, refused}
 use Rattle.ump.specs.Single.{Packet, read_packet8}
 use Rattle.ports.specs.Streams.{Streams, packets_of, stream_after, Reply, key_at, step}

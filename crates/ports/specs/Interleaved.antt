@@ -1,7 +1,6 @@
 -- What is said of interleaved streams (02, T-07), of any two calls.
 -- Assumes nothing.
-use Rattle.std.specs.Prelude.{◌≡◌, List, [], ◌∷◌, ℕ, suc, ◌+◌, ◌≤◌, ◌<◌, length, get_or, take}
-use Rattle.std.proofs.Math.Option.{none, some}
+use Rattle.std.specs.Prelude.{None, Some, ◌≡◌, List, [], ◌∷◌, ℕ, suc, ◌+◌, ◌≤◌, ◌<◌, length, get_or, take}
 use Rattle.refusal.specs.Answer.{Answer, gives, refused, pass}
 use Rattle.ump.specs.Packet.{sysex8}
 use Rattle.ump.specs.Check.{check, Valid}
@@ -20,7 +19,7 @@ pub record Empty (table : List ℕ) : Type 0 where
 -- no two streams have one key
 abbrev pub Distinct : Streams → Type 0
 Distinct [] = Unit {0}
-Distinct (s ∷ streams) = (stream_of streams s.key ≡ none) × Distinct streams
+Distinct (s ∷ streams) = (stream_of streams s.key ≡ None) × Distinct streams
 
 -- never more than 16 are open and 12 of a port, each is of port 0 or 1, and the keys are distinct
 pub record InBounds (streams : Streams) : Type 0 where
@@ -68,7 +67,7 @@ pub record Interleaved (Receives : Receiver) (Clears : Clearer) : Type 0 where
   -- stays within the bounds,
   pub bounds : {s t : State} {events : List Event} → History Receives s events t → Empty s.table → InBounds (streams_of t)
   -- and holds of each stream the packets since its last start.
-  pub holds : {s t : State} {events : List Event} → History Receives s events t → Empty s.table → (key : ℕ) → 0 < key → stream_of (streams_of t) key ≡ since key none events
+  pub holds : {s t : State} {events : List Event} → History Receives s events t → Empty s.table → (key : ℕ) → 0 < key → stream_of (streams_of t) key ≡ since key None events
   -- A port with fewer than four open streams is never refused a slot: neither Share nor Full.
   pub slot_for_four : {events : List Event} {t : State} {c : Call} {number place : ℕ} {lent : Lent} → Reached Receives events t c (refused number place, lent)
       → c.port ≤ 1 → share_of (streams_of t) c.port < 4 → (number ≡ 31 → ⊥) × (number ≡ 23 → ⊥)
@@ -81,22 +80,22 @@ pub record Interleaved (Receives : Receiver) (Clears : Clearer) : Type 0 where
   -- What is handed out is the packets from the last start to the end, as they came; behind it the output stays.
   pub hands : {events : List Event} {t : State} {c : Call} {p : Packet} {reply : Reply} {table words output : List ℕ}
       → Reached Receives events t c (gives reply, (table, words, output)) → Arrives t c p
-      → let before = packets_of (since (key_at c.port p) none events) in
+      → let before = packets_of (since (key_at c.port p) None events) in
       (reply ≡ replied p.kind before (take 4 c.packet)) × (output ≡ onto (hands_out p.kind before (take 4 c.packet)) c.output)
   -- It passes the check of document 01, and so all that is said there of a valid message is said of it.
   pub passes : {events : List Event} {t : State} {c : Call} {n : ℕ} {table words output : List ℕ}
       → Reached Receives events t c (gives (handed_out n), (table, words, output)) → Valid sysex8 output n × (check sysex8 output n ≡ pass)
   -- A packet that closes an open stream frees its slot,
   pub frees : {events : List Event} {t : State} {c : Call} {p : Packet} {reply : Reply} {table words output packets : List ℕ}
-      → Reached Receives events t c (gives reply, (table, words, output)) → Arrives t c p → stream_of (streams_of t) (key_at c.port p) ≡ some packets
-      → stream_after p.kind packets (take 4 c.packet) ≡ none
+      → Reached Receives events t c (gives reply, (table, words, output)) → Arrives t c p → stream_of (streams_of t) (key_at c.port p) ≡ Some packets
+      → stream_after p.kind packets (take 4 c.packet) ≡ None
       → (suc (length (streams_in table words)) ≡ length (streams_of t)) × (suc (share_of (streams_in table words) c.port) ≡ share_of (streams_of t) c.port)
   -- a new stream is kept wherever fewer than 16 are open and fewer than 12 of its port, whatever stood in the slot and the words that it gets,
   pub opens : {events : List Event} {t : State} {c : Call} {p : Packet} {answer : Answer Reply} {lent : Lent} → Reached Receives events t c (answer, lent)
       → Arrives t c p → p.kind ≡ start → length (streams_of t) < 16 → share_of (streams_of t) c.port < 12 → 4 ≤ part_of t.words → answer ≡ gives kept
   -- and a stream has its whole part.
   pub grows : {events : List Event} {t : State} {c : Call} {p : Packet} {answer : Answer Reply} {lent : Lent} {packets : List ℕ}
-      → Reached Receives events t c (answer, lent) → Arrives t c p → p.kind ≡ continue → stream_of (streams_of t) (key_at c.port p) ≡ some packets
+      → Reached Receives events t c (answer, lent) → Arrives t c p → p.kind ≡ continue → stream_of (streams_of t) (key_at c.port p) ≡ Some packets
       → length packets + 4 ≤ part_of t.words → answer ≡ gives kept
 
 -- what the calls must promise for it: their outcomes are the definitions', and they can be made

@@ -1,7 +1,6 @@
 -- Worked examples, computed: steps on open streams, and calls on a table.
 -- Assumes nothing.
-use Rattle.std.specs.Prelude.{◌≡◌, refl, true, false, List, [], ◌∷◌, ◌++◌, map, ℕ, zero, suc, ◌+◌, ◌*◌, replicate}
-use Rattle.std.proofs.Math.Option.{none, some}
+use Rattle.std.specs.Prelude.{None, Some, ◌≡◌, refl, true, false, List, [], ◌∷◌, ◌++◌, map, ℕ, zero, suc, ◌+◌, ◌*◌, replicate}
 use Rattle.refusal.specs.Answer.{Answer, gives, refused}
 use Rattle.ump.specs.Word.{octets}
 use Rattle.ump.specs.Packet.{size_of}
@@ -101,12 +100,12 @@ unfolding steps step arrived read_packet8 bad_type bad_count blank octets size_o
 afresh = refl
 
 -- the packets since the last start, and none after the end
-kept_since : since (key_of 0 0 1) none (steps 128 [] (call 0 0x50120141 ∷ call 0 0x50120142 ∷ call 1 0x50120143 ∷ call 0 0x50210100 ∷ []))
-    ≡ some (0x50120142 ∷ 0 ∷ 0 ∷ 0 ∷ 0x50210100 ∷ 0 ∷ 0 ∷ 0 ∷ [])
+kept_since : since (key_of 0 0 1) None (steps 128 [] (call 0 0x50120141 ∷ call 0 0x50120142 ∷ call 1 0x50120143 ∷ call 0 0x50210100 ∷ []))
+    ≡ Some (0x50120142 ∷ 0 ∷ 0 ∷ 0 ∷ 0x50210100 ∷ 0 ∷ 0 ∷ 0 ∷ [])
 unfolding since steps step arrived read_packet8 bad_type bad_count blank octets size_of
 kept_since = refl
 
-ended_since : since (key_of 0 0 9) none (steps 64 [] both) ≡ none
+ended_since : since (key_of 0 0 9) None (steps 64 [] both) ≡ None
 unfolding both since steps step arrived read_packet8 bad_type bad_count blank octets size_of
 ended_since = refl
 

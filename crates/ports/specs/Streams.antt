@@ -1,7 +1,6 @@
 -- The open streams of two ports, and one step for each packet: document 02's T-07, without slots and without places in memory.
 -- Assumes nothing.
-use Rattle.std.specs.Prelude.{Bool, true, false, cond, List, [], ◌∷◌, ◌++◌, ℕ, ◌+◌, ◌*◌, ◌/◌, eqb, ltb, leb, length, get_or, take, drop}
-use Rattle.std.proofs.Math.Option.{Option, none, some}
+use Rattle.std.specs.Prelude.{Option, None, Some, Bool, true, false, cond, List, [], ◌∷◌, ◌++◌, ℕ, ◌+◌, ◌*◌, ◌/◌, eqb, ltb, leb, length, get_or, take, drop}
 use Rattle.refusal.specs.Answer.{Answer, gives, refused, Verdict, pass, ◌▷◌, guard, verdict, writes}
 use Rattle.ump.specs.Limits.{most_words}
 use Rattle.ump.specs.Single.{Kind, complete, start, continue, end, unexpected_end, Packet, read_packet8}
@@ -26,16 +25,16 @@ Streams = List Stream
 
 -- the words of the stream with this key, if it is open
 abbrev pub stream_of : Streams → ℕ → Option (List ℕ)
-stream_of [] key = none
-stream_of (s ∷ streams) key = cond (eqb s.key key) (some s.packets) (stream_of streams key)
+stream_of [] key = None
+stream_of (s ∷ streams) key = cond (eqb s.key key) (Some s.packets) (stream_of streams key)
 
 abbrev pub is_open : Option (List ℕ) → Bool
-is_open none = false
-is_open (some words) = true
+is_open None = false
+is_open (Some words) = true
 
 abbrev pub packets_of : Option (List ℕ) → List ℕ
-packets_of none = []
-packets_of (some words) = words
+packets_of None = []
+packets_of (Some words) = words
 
 -- the streams of one port, and how many it holds
 abbrev pub own : ℕ → Streams → Streams
@@ -51,32 +50,32 @@ without [] key = []
 without (s ∷ streams) key = cond (eqb s.key key) (without streams key) (s ∷ without streams key)
 
 abbrev pub put : Streams → ℕ → Option (List ℕ) → Streams
-put streams key none = without streams key
-put streams key (some words) = record { key = key; packets = words } ∷ without streams key
+put streams key None = without streams key
+put streams key (Some words) = record { key = key; packets = words } ∷ without streams key
 
 -- ---- a packet: what it is refused for, and what an accepted one does
 
 -- Of the packet's stream: its words, if it is open; how many streams the port holds; are 16 open; the words of a part; of the output.
 -- Closed 30, Share 31, Full 23, Room 14.
 abbrev pub refusals : Kind → Option (List ℕ) → ℕ → Bool → ℕ → ℕ → Verdict
-refusals start none holds full part room = guard (leb 12 holds) 31 0 ▷ guard full 23 0 ▷ guard (ltb part 4) 14 0
-refusals start (some words) holds full part room = guard (ltb part 4) 14 0
-refusals continue none holds full part room = refused 30 0
-refusals continue (some words) holds full part room = guard (ltb part (length words + 4)) 14 0
-refusals end none holds full part room = refused 30 0
-refusals end (some words) holds full part room = guard (ltb room (length words + 4)) 14 0
-refusals (unexpected_end valid) none holds full part room = refused 30 0
-refusals (unexpected_end true) (some words) holds full part room = guard (ltb room (length words + 4)) 14 0
-refusals (unexpected_end false) (some words) holds full part room = pass
+refusals start None holds full part room = guard (leb 12 holds) 31 0 ▷ guard full 23 0 ▷ guard (ltb part 4) 14 0
+refusals start (Some words) holds full part room = guard (ltb part 4) 14 0
+refusals continue None holds full part room = refused 30 0
+refusals continue (Some words) holds full part room = guard (ltb part (length words + 4)) 14 0
+refusals end None holds full part room = refused 30 0
+refusals end (Some words) holds full part room = guard (ltb room (length words + 4)) 14 0
+refusals (unexpected_end valid) None holds full part room = refused 30 0
+refusals (unexpected_end true) (Some words) holds full part room = guard (ltb room (length words + 4)) 14 0
+refusals (unexpected_end false) (Some words) holds full part room = pass
 refusals complete stream holds full part room = guard (ltb room 4) 14 0
 
 -- the stream after a packet: a start begins it anew, a continue adds to it, the others close it
 abbrev pub stream_after : Kind → List ℕ → List ℕ → Option (List ℕ)
-stream_after start words packet = some packet
-stream_after continue words packet = some (words ++ packet)
-stream_after end words packet = none
-stream_after (unexpected_end valid) words packet = none
-stream_after complete words packet = none
+stream_after start words packet = Some packet
+stream_after continue words packet = Some (words ++ packet)
+stream_after end words packet = None
+stream_after (unexpected_end valid) words packet = None
+stream_after complete words packet = None
 
 -- what is handed out: the stream's packets and its end, as they came; a complete packet; else nothing
 abbrev pub hands_out : Kind → List ℕ → List ℕ → List ℕ

@@ -2,8 +2,7 @@
 -- equal parts of the lent words. Every content means some streams: a key of 0 is a free slot, of equal keys the first counts, and a length
 -- above the part is the part.
 -- Assumes nothing.
-use Rattle.std.specs.Prelude.{Bool, cond, List, [], ◌∷◌, ◌++◌, ℕ, zero, suc, ◌+◌, ◌*◌, ◌/◌, min, eqb, ltb, leb, length, get_or, take, drop, set, replicate}
-use Rattle.std.proofs.Math.Option.{Option, none, some}
+use Rattle.std.specs.Prelude.{Option, None, Some, Bool, cond, List, [], ◌∷◌, ◌++◌, ℕ, zero, suc, ◌+◌, ◌*◌, ◌/◌, min, eqb, ltb, leb, length, get_or, take, drop, set, replicate}
 use Rattle.std.proofs.Math.Seq.{paste}
 use Rattle.refusal.specs.Answer.{Answer, writes}
 use Rattle.ump.specs.Check.{first_where}
@@ -53,7 +52,7 @@ streams_in table words = streams_below table words 16
 
 -- the stream of a key, read off its slot
 unfoldable pub stream_at : List ℕ → List ℕ → ℕ → Option (List ℕ)
-stream_at table words key = cond (ltb (slot_of table key) 16) (some (stored_at table words (slot_of table key))) none
+stream_at table words key = cond (ltb (slot_of table key) 16) (Some (stored_at table words (slot_of table key))) None
 
 abbrev pub empty_table : List ℕ
 empty_table = replicate 32 0

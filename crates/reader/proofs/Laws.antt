@@ -1,4 +1,7 @@
 -- A step, a cursor and an answer are fixed by what they mean. Assumes nothing.
+use Rattle.std.specs.Prelude.{Result, Ok, Err, Option, Some, None}
+use Rattle.reader.specs.declared.Cursor.{Cursor}
+use Rattle.refusal.specs.declared.Fault.{Fault}
 use mathlib.Core.Path.{◌≡◌, refl, ap, ap₂}
 use Prim.Native.Nat.{ℕ}
 use native.Mathlib.Omega.{arith}
@@ -7,30 +10,26 @@ use Rattle.refusal.proofs.Laws.{fault_back, fault-back}
 use Rattle.refusal.proofs.Tight.{once}
 use Rattle.ump.specs.Reader as paper
 use Rattle.reader.specs.Meaning.{step_meaning, read_meaning, open_meaning}
-use Rattle.reader.specs.declared.Step.{Step}
-use Rattle.reader.specs.declared.Step.TheVariants.{Byte, Ended}
 use Rattle.reader.specs.declared.Read.{Read}
-use Rattle.reader.specs.declared.Opened as opened
-use Rattle.reader.specs.declared.Opened.TheVariants as openedv
 
-pub step_once : (x y : Step) → step_meaning x ≡ step_meaning y → x ≡ y
-step_once (Byte a) (Byte b) e = ap Byte (cc)
-step_once (Byte a) Ended e = let z : ◌≡◌ {A = ℕ} 0 1 = cc in absurd (omega arith)
-step_once Ended (Byte b) e = let z : ◌≡◌ {A = ℕ} 0 1 = cc in absurd (omega arith)
-step_once Ended Ended e = refl
+pub step_once : (x y : (Option ℕ)) → step_meaning x ≡ step_meaning y → x ≡ y
+step_once (Some a) (Some b) e = ap Some (cc)
+step_once (Some a) None e = let z : ◌≡◌ {A = ℕ} 0 1 = cc in absurd (omega arith)
+step_once None (Some b) e = let z : ◌≡◌ {A = ℕ} 0 1 = cc in absurd (omega arith)
+step_once None None e = refl
 
 pub read_once : (x y : Read) → read_meaning x ≡ read_meaning y → x ≡ y
 read_once x y e =
-    ap₂ (λ (s : Step) (c : paper.Cursor). record { step = s; cursor = record { packet = c.packet; byte = c.byte; remaining = c.remaining } })
+    ap₂ (λ (s : (Option ℕ)) (c : paper.Cursor). record { step = s; cursor = record { packet = c.packet; byte = c.byte; remaining = c.remaining } })
     (step_once x.step y.step (ap (λ (r : paper.Read). r.step) e)) (ap (λ (r : paper.Read). r.cursor) e)
 
-abbrev open_back : Answer paper.Cursor → opened.Opened
-open_back (gives c) = openedv.Cursor (record { packet = c.packet; byte = c.byte; remaining = c.remaining })
-open_back (refused number place) = openedv.Refused (fault_back number place)
+abbrev open_back : Answer paper.Cursor → (Result Cursor Fault)
+open_back (gives c) = Ok (record { packet = c.packet; byte = c.byte; remaining = c.remaining })
+open_back (refused number place) = Err (fault_back number place)
 
-open-back : (x : opened.Opened) → open_back (open_meaning x) ≡ x
-open-back (openedv.Cursor cursor) = refl
-open-back (openedv.Refused fault) = ap openedv.Refused (fault-back fault)
+open-back : (x : (Result Cursor Fault)) → open_back (open_meaning x) ≡ x
+open-back (Ok cursor) = refl
+open-back (Err fault) = ap Err (fault-back fault)
 
-pub open_once : (x y : opened.Opened) → open_meaning x ≡ open_meaning y → x ≡ y
+pub open_once : (x y : (Result Cursor Fault)) → open_meaning x ≡ open_meaning y → x ≡ y
 open_once = once open_meaning open_back open-back

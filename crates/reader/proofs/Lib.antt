@@ -1,4 +1,3 @@
-mod Parts
 pub mod Laws
 pub mod Unique
 pub mod ShutOut

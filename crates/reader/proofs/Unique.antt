@@ -1,4 +1,5 @@
 -- Any two outcomes that a promise allows are equal; each theorem cites the promise itself. Assumes nothing.
+use Rattle.std.specs.Prelude.{ℕ, Option}
 use mathlib.Core.Path.{◌≡◌, sym, ap, ◌∙◌}
 use seplogic.Ra.Ura.{Ura}
 use base.Logic.{SProp, ent, emp, via}
@@ -14,7 +15,6 @@ use Rattle.refusal.specs.Tight.{FixesResult}
 use Rattle.ump.specs.Reader as paper
 use Rattle.reader.specs.Meaning.{step_meaning}
 use Rattle.reader.specs.declared.PayloadReader.{PayloadReader}
-use Rattle.reader.specs.declared.Step.{Step}
 use Rattle.reader.proofs.Laws.{step_once, read_once, open_once}
 use Rattle.reader.proofs.next.Kinds as next-kinds
 use Rattle.reader.proofs.next.Reads as next
@@ -58,7 +58,7 @@ module _ {M : Type 1} {𝓤 : Ura M} (𝓛 : Logic 𝓤) (mem : Memory → SProp
       guard-conj 𝓤 P (emp 𝓤) (fact 𝓤 Q) (λ p. via 𝓤 (fact 𝓤 Q) (conj_r 𝓤 (emp 𝓤) (fact 𝓤 Q)) (fact_mono 𝓤 Q R (f p)))
 
   -- the step and the reader after it
-  same_read : (x y : Step) (h k : PayloadReader) (o : paper.Step × PayloadReader) → (step_meaning x, h) ≡ o → (step_meaning y, k) ≡ o → (x ≡ y) × (h ≡ k)
+  same_read : (x y : (Option ℕ)) (h k : PayloadReader) (o : paper.Step × PayloadReader) → (step_meaning x, h) ≡ o → (step_meaning y, k) ≡ o → (x ≡ y) × (h ≡ k)
   same_read x y h k o p q =
       let e = p ∙ sym q in
       (step_once x y (ap (λ (r : paper.Step × PayloadReader). r.0) e), ap (λ (r : paper.Step × PayloadReader). r.1) e)

@@ -7,28 +7,20 @@ ghost use Rattle.ump.specs.Reader.{nth as nth_of, bytes_remaining, reader as rea
 ghost use Rattle.reader.specs.Meaning.{cursor_meaning, step_meaning, read_meaning, open_meaning};
 ghost use Rattle.reader.specs.Held.{reader_at, cursor_of, read_on};
 
-use message::sysex8::Checked;
 use refusal::Fault;
 
 // Packet and byte where the next byte stands, and how many bytes are to be read.
-#[derive(Clone, Copy)]
+#[derive(Clone, Copy, Debug, PartialEq, Eq)]
 pub struct Cursor {
     pub packet: usize,
     pub byte: usize,
     pub remaining: usize,
 }
 
-// A payload byte, or the end.
-#[derive(Drop)]
-pub enum Step {
-    Byte(u8),
-    Ended,
-}
-
 // What a call answers: the byte or the end, and the cursor after it.
-#[derive(Drop)]
+#[derive(Clone, Copy, Debug, PartialEq, Eq)]
 pub struct Read {
-    pub step: Step,
+    pub step: Option<u8>,
     pub cursor: Cursor,
 }
 
@@ -38,8 +30,8 @@ fn standing(words: &[u32], packet: usize, byte: usize) -> usize
     requires { packet < length words.now / 4 }
     ensures { result ≡ size_at sysex8 words.now packet - byte }
 {
-    let size = layout::sysex8_size(layout::count_of(words[4 * packet]) as usize);
-    if byte < size { size - byte } else { 0 }
+    let count = layout::count_of(words[4 * packet]) as usize;
+    layout::payload_size::<layout::Sysex8>(count).saturating_sub(byte)
 }
 
 // Skip-then-read. Empty packets are passed, words short of a packet are ignored, and after the end it answers ended for ever.
@@ -48,16 +40,15 @@ pub fn nth(words: &[u32], cursor: Cursor, skip: usize) -> Read
 {
     let packets = words.len() / 4;
     let remaining = cursor.remaining;
-    let mut packet = cursor.packet;
     let mut byte = cursor.byte;
     let mut ahead = skip;
     if skip < remaining {
-        while packet < packets {
+        for packet in cursor.packet..packets {
             let here = standing(words, packet, byte);
             if ahead < here {
                 let at = byte + ahead;
                 return Read {
-                    step: Step::Byte(layout::octet_of(words[4 * packet + (at + 3) / 4], at + 3)),
+                    step: Some(layout::octet_of(words[4 * packet + (at + 3) / 4], at + 3)),
                     cursor: Cursor {
                         packet,
                         byte: at + 1,
@@ -66,12 +57,11 @@ pub fn nth(words: &[u32], cursor: Cursor, skip: usize) -> Read
                 };
             }
             ahead -= here;
-            packet += 1;
             byte = 0;
         }
     }
     Read {
-        step: Step::Ended,
+        step: None,
         cursor: Cursor {
             packet: packets,
             byte: 0,
@@ -93,44 +83,32 @@ pub fn remaining(words: &[u32], cursor: Cursor) -> usize
 {
     let packets = words.len() / 4;
     let count = cursor.remaining;
-    let mut packet = cursor.packet;
     let mut byte = cursor.byte;
     let mut ahead = count;
-    while packet < packets {
+    for packet in cursor.packet..packets {
         let here = standing(words, packet, byte);
         if ahead <= here {
             return count;
         }
         ahead -= here;
-        packet += 1;
         byte = 0;
     }
     count - ahead
 }
 
-// The answer of making a reader over a message.
-#[derive(Drop)]
-pub enum Opened {
-    Cursor(Cursor),
-    Refused(Fault),
-}
-
 // The cursor at the start of the message in the first `length` words, which are those that it is then read with; the check's refusals.
-pub fn open(words: &[u32], length: usize) -> Opened
+pub fn open(words: &[u32], length: usize) -> Result<Cursor, Fault>
     ensures { open_meaning result ≡ reader_of sysex8 words.now length }
 {
-    let checked = message::sysex8::check(words, length);
-    match checked {
-        Checked::Refused(fault) => Opened::Refused(fault),
-        Checked::Message(message) => Opened::Cursor(Cursor {
-            packet: 0,
-            byte: 0,
-            remaining: message.size,
-        }),
-    }
+    let message = message::sysex8::check(words, length)?;
+    Ok(Cursor {
+        packet: 0,
+        byte: 0,
+        remaining: message.size,
+    })
 }
 
-// The reader keeps the words it was made over, with packet, byte and remaining counts.
+// The reader keeps the words it was made over, with packet, byte and remaining counts, which are its fields as document 01 has them.
 #[derive(Drop)]
 pub struct PayloadReader<'a> {
     pub words: &'a [u32],
@@ -153,7 +131,7 @@ impl<'a> PayloadReader<'a> {
     }
 
     // Skip-then-read; the reader is moved on.
-    pub fn nth(&mut self, skip: usize) -> Step
+    pub fn nth(&mut self, skip: usize) -> Option<u8>
         ensures { (step_meaning result, self.new) ≡ read_on self.old skip }
     {
         let cursor = Cursor {
@@ -169,7 +147,7 @@ impl<'a> PayloadReader<'a> {
     }
 
     // The next byte, or the end; the reader is moved on.
-    pub fn next(&mut self) -> Step
+    pub fn next(&mut self) -> Option<u8>
         ensures { (step_meaning result, self.new) ≡ read_on self.old 0 }
     {
         self.nth(0)
@@ -191,7 +169,7 @@ impl<'a> PayloadReader<'a> {
 }
 
 // Skip-then-read by a reader made over the words at the cursor: who calls this needs no reader.
-pub fn payload_byte(words: &[u32], cursor: Cursor, skip: usize) -> Step
+pub fn payload_byte(words: &[u32], cursor: Cursor, skip: usize) -> Option<u8>
     ensures { step_meaning result ≡ (nth_of sysex8 words.now (cursor_meaning cursor) skip).step }
 {
     let mut reader = PayloadReader::new(words, cursor);

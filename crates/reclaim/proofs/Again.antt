@@ -1,7 +1,8 @@
 -- A number that is freed may be used again (02, T-13). Assumes nothing.
+use Rattle.std.specs.Prelude.{Some}
 use mathlib.Core.Path.{◌≡◌, refl, sym, ap, ◌∙◌}
 use mathlib.Core.Bool.{Bool, true, false, cond, ◌||◌}
-use mathlib.Core.Option.{some, or_else}
+use Rattle.std.specs.Option.{option_or}
 use mathlib.Core.List.{List, [], ◌∷◌, ◌++◌, map-append}
 use Prim.Native.Nat.{ℕ, suc, ◌≤◌, ◌<◌}
 use native.Mathlib.Omega.{arith}
@@ -19,13 +20,13 @@ use Rattle.reclaim.proofs.Kept.{kept_dumps, elem_kept, length_kept, held-freed, 
 
 -- ---- dumps behind others
 
-pub held-append : (ds es : List Dump) (n : ℕ) → held (ds ++ es) n ≡ or_else (held ds n) (held es n)
-unfolding held or_else
+pub held-append : (ds es : List Dump) (n : ℕ) → held (ds ++ es) n ≡ option_or (held ds n) (held es n)
+unfolding held
 held-append [] es n = refl
 held-append (d ∷ ds) es n = go (held-append ds es n) (eqb n (dump_number d))
   where
-    go : held (ds ++ es) n ≡ or_else (held ds n) (held es n) → (b : Bool)
-        → cond b (some d) (held (ds ++ es) n) ≡ or_else (cond b (some d) (held ds n)) (held es n)
+    go : held (ds ++ es) n ≡ option_or (held ds n) (held es n) → (b : Bool)
+        → cond b (Some d) (held (ds ++ es) n) ≡ option_or (cond b (Some d) (held ds n)) (held es n)
     go more true = refl
     go more false = more
 
@@ -86,8 +87,8 @@ module _ (store more : List ℕ) (s : sound store ≡ pass) (f : well_formed at_
     pub again_after : check_store (left ++ more) ≡ gives (suc (length (dumps_of left)))
     again_after = sym (check_passed (left ++ more) again_sound (sym count))
 
-    pub again_held : held (dumps_of (left ++ more)) (dump_number d) ≡ some d
-    unfolding held or_else
+    pub again_held : held (dumps_of (left ++ more)) (dump_number d) ≡ Some d
+    unfolding held
     again_held =
         let none-held = ap (λ (ds : List Dump). held ds (dump_number d)) (kept-dumps keep store s) ∙ held-freed keep (dump_number d) k (dumps_of store) in
         ap (λ (ds : List Dump). held ds (dump_number d)) all_dumps ∙ held-append (dumps_of left) (d ∷ []) (dump_number d)

@@ -5,15 +5,14 @@ use Prim.Native.Nat.{ℕ}
 use contract.Lifetimes.{Lfts}
 use borrow.Fn.Kinds.{Dens}
 use Rattle.refusal.specs.Tight.{Called}
-use Rattle.store.specs.Meaning.{checked_meaning}
 use Rattle.store.proofs.check.Kinds as check-kinds
 use Rattle.store.proofs.check.Reads as check
-use Rattle.reclaim.specs.Meaning.{marked_meaning, collected_meaning}
 use Rattle.reclaim.specs.Reclaimed.{Checker, Marker, Collector}
 use Rattle.reclaim.proofs.mark.Kinds as mark-kinds
 use Rattle.reclaim.proofs.mark.Reads as mark
 use Rattle.reclaim.proofs.collect.Kinds as collect-kinds
 use Rattle.reclaim.proofs.collect.Reads as collect
+use Rattle.refusal.specs.Meaning.{answer_of}
 
 -- what the calls are given, the library's and the exported ones alike
 abbrev pub check_given : List ℕ → (κs : Lfts 1) → Dens κs check-kinds.ps → Type 0
@@ -29,16 +28,16 @@ collect_given store κs a = a.0.now ≡ store
 abbrev pub Checks : Checker
 Checks store answer =
     Called 1 check-kinds.ps check-kinds.r check.Post (check_given store)
-    (λ κs said. checked_meaning said) (λ κs exit. Unit {0}) answer
+    (λ κs said. answer_of said) (λ κs exit. Unit {0}) answer
 
 -- `mark` is called on this store and this number; it answers what means this, and leaves this store
 abbrev pub Marks : Marker
 Marks store n verdict left =
     Called 1 mark-kinds.ps mark-kinds.r mark.Post (mark_given store n)
-    (λ κs said. marked_meaning said) (λ κs exit. exit.0.now ≡ left) verdict
+    (λ κs said. answer_of said) (λ κs exit. exit.0.now ≡ left) verdict
 
 -- `collect` is called on this store; it answers what means this, and leaves this store
 abbrev pub Collects : Collector
 Collects store answer left =
     Called 1 collect-kinds.ps collect-kinds.r collect.Post (collect_given store)
-    (λ κs said. collected_meaning said) (λ κs exit. exit.0.now ≡ left) answer
+    (λ κs said. answer_of said) (λ κs exit. exit.0.now ≡ left) answer

@@ -1,8 +1,8 @@
 -- What collecting keeps and what it frees; collecting again changes nothing further (02, T-13). Assumes nothing.
+use Rattle.std.specs.Prelude.{Some}
 use mathlib.Core.Path.{◌≡◌, refl, sym, ap, ◌∙◌}
 use mathlib.Core.Logic.{◌↔◌}
 use mathlib.Core.Bool.{Bool, true, false}
-use mathlib.Core.Option.{some}
 use mathlib.Core.List.{List, [], ◌∷◌, ◌++◌, append-nil}
 use Prim.Native.Nat.{ℕ, suc, ◌-◌, ◌≤◌}
 use native.Mathlib.Omega.{arith}
@@ -56,13 +56,13 @@ module _ (store : List ℕ) (s : sound store ≡ pass) where
   c = collection store s
 
   -- it holds exactly the dumps that stay
-  pub left_held : (n : ℕ) (d : Dump) → (held (dumps_of new) n ≡ some d) ↔ ((held (dumps_of store) n ≡ some d) × Needed store n)
+  pub left_held : (n : ℕ) (d : Dump) → (held (dumps_of new) n ≡ Some d) ↔ ((held (dumps_of store) n ≡ Some d) × Needed store n)
   left_held n d = rw c.dumps (
     (λ e. go (stays store n) refl e),
     (λ p. sym (staying_held store n p.1) ∙ p.0),
   )
     where
-      go : (b : Bool) → stays store n ≡ b → held (staying store) n ≡ some d → (held (dumps_of store) n ≡ some d) × Needed store n
+      go : (b : Bool) → stays store n ≡ b → held (staying store) n ≡ Some d → (held (dumps_of store) n ≡ Some d) × Needed store n
       go true q e = let k = stays_needed store n q in (staying_held store n k ∙ e, k)
       go false q e = never_none (sym (held-freed (stays store) n q (dumps_of store)) ∙ e)
 
@@ -98,7 +98,7 @@ module _ (store : List ℕ) (s : sound store ≡ pass) where
   pub left_free : (more : List ℕ) {d : Dump} → well_formed at_start (records_of more) ≡ true → dumps_of more ≡ d ∷ []
       → elem (dump_number d) (numbers_of (dumps_of store)) ≡ true → (Needed store (dump_number d) → ⊥)
       → (check_store (store ++ more) ≡ refused 22 0) × (check_store (new ++ more) ≡ gives (suc (length (dumps_of new))))
-      × (held (dumps_of (new ++ more)) (dump_number d) ≡ some d)
+      × (held (dumps_of (new ++ more)) (dump_number d) ≡ Some d)
   unfolding collected
   left_free more {d} f one e h =
       let k = freed_goes store (dump_number d) h in (

@@ -1,7 +1,8 @@
 -- A store made of dumps of another that restores a wanted dump as well holds each dump of that walk (02, T-13). Assumes nothing.
+use Rattle.std.specs.Prelude.{Option, None, Some}
 use mathlib.Core.Path.{◌≡◌, refl, sym, ap, ◌∙◌}
 use mathlib.Core.Bool.{true, false}
-use mathlib.Core.Option.{Option, none, some, or_else}
+use Rattle.std.specs.Option.{option_or}
 use mathlib.Core.List.{List, ◌++◌}
 use Prim.Native.Nat.{ℕ, zero, suc, ◌≤◌}
 use lib.ListN.{length}
@@ -23,55 +24,55 @@ use Rattle.reclaim.proofs.Again.{held-append}
 -- ---- dumps behind others
 
 -- a number that none of them has
-held_none : (ds : List Dump) (n : ℕ) → elem n (numbers_of ds) ≡ false → held ds n ≡ none
+held_none : (ds : List Dump) (n : ℕ) → elem n (numbers_of ds) ≡ false → held ds n ≡ None
 held_none ds n e = go (held ds n) refl
   where
-    go : (o : Option Dump) → held ds n ≡ o → o ≡ none
-    go none q = refl
-    go (some d) q = not_both (held_number ds n q) e
+    go : (o : Option Dump) → held ds n ≡ o → o ≡ None
+    go None q = refl
+    go (Some d) q = not_both (held_number ds n q) e
 
 -- where no number is used again, none is held behind as well
-held_once : (ds es : List Dump) (n : ℕ) {d : Dump} → twice (numbers_of (ds ++ es)) ≡ false → held ds n ≡ some d → held es n ≡ none
-unfolding twice or_else
+held_once : (ds es : List Dump) (n : ℕ) {d : Dump} → twice (numbers_of (ds ++ es)) ≡ false → held ds n ≡ Some d → held es n ≡ None
+unfolding twice
 held_once ds es n {d} o e =
-    held_by n d (λ ds. twice (numbers_of (ds ++ es)) ≡ false → held es n ≡ none)
+    held_by n d (λ ds. twice (numbers_of (ds ++ es)) ≡ false → held es n ≡ None)
     (λ ds q o.
     let a = (or_false (elem (dump_number d) (numbers_of (ds ++ es))) (twice (numbers_of (ds ++ es))) o).0 in
     behind (held ds n) (sym (held-append ds es n) ∙ held_none (ds ++ es) n (ap (λ (x : ℕ). elem x (numbers_of (ds ++ es))) q ∙ a)))
     (λ c ds more o. more (or_false (elem (dump_number c) (numbers_of (ds ++ es))) (twice (numbers_of (ds ++ es))) o).1)
     ds e o
   where
-    behind : (o : Option Dump) → or_else o (held es n) ≡ none → held es n ≡ none
-    behind none q = q
-    behind (some c) q = never_none (sym q)
+    behind : (o : Option Dump) → option_or o (held es n) ≡ None → held es n ≡ None
+    behind None q = q
+    behind (Some c) q = never_none (sym q)
 
 -- ---- a walk that is never missing
 
-module _ (ds es more : List Dump) (part : (n : ℕ) (d : Dump) → held es n ≡ some d → held ds n ≡ some d)
+module _ (ds es more : List Dump) (part : (n : ℕ) (d : Dump) → held es n ≡ Some d → held ds n ≡ Some d)
     (once : twice (numbers_of (ds ++ more)) ≡ false) where
-  held_here : (w : ℕ) {d : Dump} → (IsMissing (es ++ more) w → ⊥) → held ds w ≡ some d → held es w ≡ some d
-  unfolding comes or_else
+  held_here : (w : ℕ) {d : Dump} → (IsMissing (es ++ more) w → ⊥) → held ds w ≡ Some d → held es w ≡ Some d
+  unfolding comes
   held_here w {d} found e = go (held es w) refl
     where
-      go : (o : Option Dump) → held es w ≡ o → o ≡ some d
-      go (some c) q = sym (part w c q) ∙ e
-      go none q =
-          let no : held (es ++ more) w ≡ none =
-          held-append es more w ∙ ap (λ (o : Option Dump). or_else o (held more w)) q ∙ held_once ds more w once e in
+      go : (o : Option Dump) → held es w ≡ o → o ≡ Some d
+      go (Some c) q = sym (part w c q) ∙ e
+      go None q =
+          let no : held (es ++ more) w ≡ None =
+          held-append es more w ∙ ap (λ (o : Option Dump). option_or o (held more w)) q ∙ held_once ds more w once e in
           absurd (found (record { steps = 0; number = w; come = refl; none-held = no }))
 
-  held_on : (i w n : ℕ) {d : Dump} → (IsMissing (es ++ more) w → ⊥) → comes ds i w ≡ some n → held ds n ≡ some d → held es n ≡ some d
-  unfolding comes or_else
+  held_on : (i w n : ℕ) {d : Dump} → (IsMissing (es ++ more) w → ⊥) → comes ds i w ≡ Some n → held ds n ≡ Some d → held es n ≡ Some d
+  unfolding comes
   held_on zero w n found c e = let same : w ≡ n = cc in rw same at (held_here w found (ap (held ds) same ∙ e))
   held_on (suc i) w n {d} found c e = go (λ b f h. held_on i b n f h e) (held ds w) refl c
     where
-      go : ((b : ℕ) → (IsMissing (es ++ more) b → ⊥) → comes ds i b ≡ some n → held es n ≡ some d) → (o : Option Dump) → held ds w ≡ o
-          → from_base none (λ b. comes ds i b) (base_of o) ≡ some n → held es n ≡ some d
-      go next none q h = never_none h
-      go next (some (whole number group id bytes)) q h = never_none h
-      go next (some (delta number base patches)) q h =
-          let here : held (es ++ more) w ≡ some (delta number base patches) =
-          held-append es more w ∙ ap (λ (o : Option Dump). or_else o (held more w)) (held_here w found q) in
+      go : ((b : ℕ) → (IsMissing (es ++ more) b → ⊥) → comes ds i b ≡ Some n → held es n ≡ Some d) → (o : Option Dump) → held ds w ≡ o
+          → from_base None (λ b. comes ds i b) (base_of o) ≡ Some n → held es n ≡ Some d
+      go next None q h = never_none h
+      go next (Some (whole number group id bytes)) q h = never_none h
+      go next (Some (delta number base patches)) q h =
+          let here : held (es ++ more) w ≡ Some (delta number base patches) =
+          held-append es more w ∙ ap (λ (o : Option Dump). option_or o (held more w)) (held_here w found q) in
           next base
           (λ m. found (record {
             steps = suc m.steps;
@@ -85,10 +86,10 @@ module _ (ds es more : List Dump) (part : (n : ℕ) (d : Dump) → held es n ≡
 
 pub fewest_held : (store other more : List ℕ) → sound store ≡ pass → sound other ≡ pass → PartOf other store
     → well_formed at_start (records_of more) ≡ true → sound (store ++ more) ≡ pass → sound (other ++ more) ≡ pass
-    → (w n steps : ℕ) {d : Dump} → comes (dumps_of store) steps w ≡ some n → held (dumps_of store) n ≡ some d
+    → (w n steps : ℕ) {d : Dump} → comes (dumps_of store) steps w ≡ Some n → held (dumps_of store) n ≡ Some d
     → (words : List ℕ) {answer : Answer ℕ} {new : List ℕ} → length words ≤ most_words → (answer ≡ refused 24 0 → ⊥)
     → ◌≡◌ {A = Answer ℕ × List ℕ} (answer, new) (restore (other ++ more) w words)
-    → held (dumps_of other) n ≡ some d
+    → held (dumps_of other) n ≡ Some d
 fewest_held store other more s t part formed a b w n steps come e words short found call =
     held_on (dumps_of store) (dumps_of other) (dumps_of more) part
     (rw (dumps-append at_start store more (sound_good store s).formed formed) at (sound_good (store ++ more) a).once)

@@ -1,7 +1,7 @@
 -- The records of the dumps that are kept, whichever these are (02, T-13). Assumes nothing.
+use Rattle.std.specs.Prelude.{None, Some}
 use mathlib.Core.Path.{◌≡◌, refl, sym, ap, ◌∙◌}
 use mathlib.Core.Bool.{Bool, true, false, cond, ◌&&◌, ◌||◌}
-use mathlib.Core.Option.{none, some}
 use mathlib.Core.List.{List, [], ◌∷◌, ◌++◌}
 use Prim.Native.Nat.{ℕ, suc, ◌≤◌}
 use native.Mathlib.Omega.{arith}
@@ -76,19 +76,19 @@ module _ (keep : ℕ → Bool) where
     held_kept k (d ∷ ds) = go (held_kept k ds) (keep (dump_number d)) refl (eqb n (dump_number d)) refl
       where
         go : held (kept_dumps keep ds) n ≡ held ds n → (b : Bool) → keep (dump_number d) ≡ b → (c : Bool) → eqb n (dump_number d) ≡ c
-            → held (cond b (d ∷ kept_dumps keep ds) (kept_dumps keep ds)) n ≡ cond c (some d) (held ds n)
+            → held (cond b (d ∷ kept_dumps keep ds) (kept_dumps keep ds)) n ≡ cond c (Some d) (held ds n)
         go more true p true q = rw q
         go more true p false q = rw q more
         go more false p true q = not_both k (ap keep (eqb-true n (dump_number d) q) ∙ p)
         go more false p false q = more
 
-    pub held-freed : keep n ≡ false → (ds : List Dump) → held (kept_dumps keep ds) n ≡ none
+    pub held-freed : keep n ≡ false → (ds : List Dump) → held (kept_dumps keep ds) n ≡ None
     unfolding held kept_dumps
     held-freed k [] = refl
     held-freed k (d ∷ ds) = go (held-freed k ds) (keep (dump_number d)) refl (eqb n (dump_number d)) refl
       where
-        go : held (kept_dumps keep ds) n ≡ none → (b : Bool) → keep (dump_number d) ≡ b → (c : Bool) → eqb n (dump_number d) ≡ c
-            → held (cond b (d ∷ kept_dumps keep ds) (kept_dumps keep ds)) n ≡ none
+        go : held (kept_dumps keep ds) n ≡ None → (b : Bool) → keep (dump_number d) ≡ b → (c : Bool) → eqb n (dump_number d) ≡ c
+            → held (cond b (d ∷ kept_dumps keep ds) (kept_dumps keep ds)) n ≡ None
         go more true p true q = not_both p (ap keep (sym (eqb-true n (dump_number d) q)) ∙ k)
         go more true p false q = rw q more
         go more false p c q = more

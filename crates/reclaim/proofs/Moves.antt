@@ -7,36 +7,16 @@ use native.Mathlib.Nat.{add-zero}
 use native.Mathlib.Omega.{arith}
 use lib.Dec.{ltb}
 use lib.ListN.{length, get_or, take, drop, replicate, length-drop, drop_of_length-le}
-use lib.Seq.{take_all, paste, length_paste_head, take-paste, drop-paste, get_or-append-add, get_or-drop, drop-drop, drop-cons, length-take-le}
+use lib.Seq.{take_all, take-paste, drop-paste, get_or-drop, drop-drop, drop-cons, length-take-le}
 use borrow.Author.Tests.{ltb-true, ltb-false}
 use Rattle.refusal.specs.Answer.{gives, refused, pass}
 use Rattle.ump.specs.Word.{pair_at}
 use Rattle.store.specs.Store.{is_dump, body_size, Record, records_of, sound}
 use Rattle.store.specs.Places.{record_at, records_from, flagged}
-use Rattle.store.proofs.Records.{not_both, records_end, records_step}
+use Rattle.store.proofs.Records.{records_end, records_step}
 use Rattle.store.proofs.Dumps.{number-body}
-use Rattle.restore.proofs.Copying.{Pasted}
 use Rattle.reclaim.specs.Reclaim.{stays, kept_in, bytes_in, collected, lent_after, collect}
 use Rattle.reclaim.specs.Keeping.{Kept, PassesDown}
-
--- ---- a part moved down over itself
-
-pub shift_read : {s now : List ℕ} {at done index : ℕ} → Pasted s done s at now index → done ≤ at → at + index < length s
-    → get_or now (at + index) 0 ≡ get_or s (at + index) 0
-shift_read {s} {now} {at} {done} {index} p h k =
-    let front = take done s ++ take index (drop at s) in
-    let l : length front ≡ done + index = length_paste_head s done (drop at s) index (omega arith) (rw length-drop (omega arith)) in
-    let q : at + index ≡ length front + (at - done) = omega (arith, l) in
-    let r : done + index + (at - done) ≡ at + index = omega arith in
-    ap (λ (x : List ℕ). get_or x (at + index) 0) p.is ∙ ap (λ (n : ℕ). get_or (front ++ drop (done + index) s) n 0) q
-    ∙ get_or-append-add front (drop (done + index) s) (at - done) 0 ∙ get_or-drop (done + index) s (at - done) 0 ∙ ap (λ (n : ℕ). get_or s n 0) r
-
-pub down_goes : {s : List ℕ} {at done size : ℕ} {on : Bool} → on ≡ false → PassesDown on s at done size done s
-down_goes e = record { stays = λ t. not_both t e; goes = λ t. (refl, refl) }
-
-pub down_stays : {s after : List ℕ} {at done size : ℕ} {on : Bool} → on ≡ true → after ≡ paste s done (drop at s) size
-    → PassesDown on s at done size (done + size) after
-down_stays e p = record { stays = λ t. (refl, p); goes = λ t. not_both e t }
 
 -- ---- the records moved so far
 

@@ -5,13 +5,13 @@ use Prim.Native.Nat.{ℕ}
 use Rattle.refusal.specs.Answer.{Answer, Verdict}
 use Rattle.refusal.specs.Tight.{lent, lent_mut}
 use Rattle.store.proofs.Checks.{check_named}
-use Rattle.store.proofs.Unique.{checked_back, checked_meant}
 use Rattle.restore.proofs.Calls.{Restores, Describes}
 use Rattle.restore.proofs.Promises as chain
 use Rattle.reclaim.specs.Reclaimed.{Reclaimed, PromisedStore}
-use Rattle.reclaim.proofs.Unique.{marked_back, marked_meant, mark_named, collected_back, collected_meant, collect_named}
+use Rattle.reclaim.proofs.Unique.{mark_named, collect_named}
 use Rattle.reclaim.proofs.Calls.{Checks, Marks, Collects}
 use Rattle.reclaim.proofs.Reclaims as laws
+use Rattle.refusal.proofs.Laws.{answer_back, answer_meant}
 
 promised : PromisedStore Checks Restores Describes Marks Collects
 promised =
@@ -21,11 +21,11 @@ promised =
       marks = λ m. let g = m.given in rw (g.0, g.1, m.left, m.answer_is) at m.promise;
       collects = λ c. rw (c.given, c.left, c.answer_is) at c.promise;
       can_check = λ {store = store} {answer} e.
-          let meant = checked_meant answer (rw e at (check_named store)) in
+          let meant = answer_meant answer (rw e at (check_named store)) in
           record {
             lifetimes = ([], tt);
             arguments = (lent store, tt);
-            said = checked_back answer;
+            said = answer_back answer;
             exit = (lent store, tt);
             promise = meant ∙ sym e;
             given = refl;
@@ -33,11 +33,11 @@ promised =
             left = tt;
           };
       can_mark = λ {store = store} {n} {verdict} {left} e.
-          let meant = marked_meant verdict (rw (ap (λ (o : Verdict × List ℕ). o.0) e) at (mark_named store n)) in
+          let meant = answer_meant verdict (rw (ap (λ (o : Verdict × List ℕ). o.0) e) at (mark_named store n)) in
           record {
             lifetimes = ([], tt);
             arguments = (lent_mut store, (n, tt));
-            said = marked_back verdict;
+            said = answer_back verdict;
             exit = (lent_mut left, (n, tt));
             promise = ap (λ (a : Verdict). (a, left)) meant ∙ sym e;
             given = (refl, refl);
@@ -45,11 +45,11 @@ promised =
             left = refl;
           };
       can_collect = λ {store = store} {answer} {left} e.
-          let meant = collected_meant answer (rw (ap (λ (o : Answer ℕ × List ℕ). o.0) e) at (collect_named store)) in
+          let meant = answer_meant answer (rw (ap (λ (o : Answer ℕ × List ℕ). o.0) e) at (collect_named store)) in
           record {
             lifetimes = ([], tt);
             arguments = (lent_mut store, tt);
-            said = collected_back answer;
+            said = answer_back answer;
             exit = (lent_mut left, tt);
             promise = ap (λ (a : Answer ℕ). (a, left)) meant ∙ sym e;
             given = refl;

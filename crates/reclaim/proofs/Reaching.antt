@@ -1,7 +1,7 @@
 -- The numbers that stay are those of the wanted dumps' walks (02, T-13). Assumes nothing.
+use Rattle.std.specs.Prelude.{Option, None, Some}
 use mathlib.Core.Path.{◌≡◌, refl, sym, ap, ◌∙◌}
 use mathlib.Core.Bool.{Bool, true, false, ◌||◌}
-use mathlib.Core.Option.{Option, none, some}
 use mathlib.Core.List.{List, [], ◌∷◌}
 use Prim.Native.Nat.{ℕ, zero, suc, ◌+◌, ◌-◌, ◌≤◌, ◌<◌}
 use native.Mathlib.Omega.{arith}
@@ -23,19 +23,19 @@ module _ (ds : List Dump) where
   -- so many steps
   record Steps (w n : ℕ) : Type 0 where
     pub steps : ℕ
-    pub come : comes ds steps w ≡ some n
+    pub come : comes ds steps w ≡ Some n
 
   -- what is come to at all is come to within as many steps as there are dumps: a ring is cut out of a longer walk
   record Soonest (w n : ℕ) : Type 0 where
     pub steps : ℕ
     pub few : steps ≤ length ds
-    pub come : comes ds steps w ≡ some n
+    pub come : comes ds steps w ≡ Some n
 
-  shorter : (fuel i w n : ℕ) → i ≤ fuel + length ds → comes ds i w ≡ some n → Soonest w n
+  shorter : (fuel i w n : ℕ) → i ≤ fuel + length ds → comes ds i w ≡ Some n → Soonest w n
   shorter zero i w n h e = record { steps = i; few = omega arith; come = e }
   shorter (suc fuel) i w n h e = go (λ j k c. shorter fuel j w n k c) (ltb (length ds) i) refl
     where
-      go : ((j : ℕ) → j ≤ fuel + length ds → comes ds j w ≡ some n → Soonest w n) → (b : Bool) → ltb (length ds) i ≡ b → Soonest w n
+      go : ((j : ℕ) → j ≤ fuel + length ds → comes ds j w ≡ Some n → Soonest w n) → (b : Bool) → ltb (length ds) i ≡ b → Soonest w n
       go more false q = record { steps = i; few = ltb-false (length ds) i q; come = e }
       go more true q =
           let v = comes_before ds w (suc (length ds)) i n (ltb-true (length ds) i q) e in
@@ -43,25 +43,25 @@ module _ (ds : List Dump) where
           let r = t.in_ring in
           let u = comes_before ds w r.later i n (omega (arith, t.soon, ltb-true (length ds) i q)) e in
           let same : u.middle ≡ r.number = cc (sym u.first ∙ r.again) in
-          let turn : comes ds (i - r.later) r.number ≡ some n = rw same at u.second in
+          let turn : comes ds (i - r.later) r.number ≡ Some n = rw same at u.second in
           more (r.earlier + (i - r.later)) (omega (arith, r.before, t.soon, ltb-true (length ds) i q))
           (comes_join ds w r.earlier (i - r.later) r.number n r.passed turn)
 
-  soonest : (i w n : ℕ) → comes ds i w ≡ some n → Soonest w n
+  soonest : (i w n : ℕ) → comes ds i w ≡ Some n → Soonest w n
   soonest i w n e = shorter i i w n (omega arith) e
 
   -- the list of the first so many numbers has each of them
-  walked_has : (i left w n : ℕ) → i < left → comes ds i w ≡ some n → elem n (walked ds left w) ≡ true
+  walked_has : (i left w n : ℕ) → i < left → comes ds i w ≡ Some n → elem n (walked ds left w) ≡ true
   unfolding comes walked
   walked_has i zero w n h e = absurd (omega arith)
   walked_has zero (suc left) w n h e = let same : n ≡ w = cc in rw (eq-eqb n w same)
   walked_has (suc i) (suc left) w n h e =
       or_right_true (eqb n w) _ (go (λ b c. walked_has i left b n (omega arith) c) (base_of (held ds w)) e)
     where
-      go : ((b : ℕ) → comes ds i b ≡ some n → elem n (walked ds left b) ≡ true) → (o : Option ℕ)
-          → from_base none (λ b. comes ds i b) o ≡ some n → elem n (from_base [] (λ b. walked ds left b) o) ≡ true
-      go more none c = never_none c
-      go more (some b) c = more b c
+      go : ((b : ℕ) → comes ds i b ≡ Some n → elem n (walked ds left b) ≡ true) → (o : Option ℕ)
+          → from_base None (λ b. comes ds i b) o ≡ Some n → elem n (from_base [] (λ b. walked ds left b) o) ≡ true
+      go more None c = never_none c
+      go more (Some b) c = more b c
 
   -- and no other
   has_walked : (left w n : ℕ) → elem n (walked ds left w) ≡ true → Steps w n
@@ -71,14 +71,14 @@ module _ (ds : List Dump) where
     where
       go : ((b : ℕ) → elem n (walked ds left b) ≡ true → Steps b n) → (o : Option ℕ) → base_of (held ds w) ≡ o
           → elem n (from_base [] (λ b. walked ds left b) o) ≡ true → Steps w n
-      go more none q h = not_both h refl
-      go more (some b) q h =
+      go more None q h = not_both h refl
+      go more (Some b) q h =
           let r = more b h in
-          record { steps = suc r.steps; come = ap (from_base none (λ x. comes ds r.steps x)) q ∙ r.come }
+          record { steps = suc r.steps; come = ap (from_base None (λ x. comes ds r.steps x)) q ∙ r.come }
 
       here : ((b : ℕ) → elem n (walked ds left b) ≡ true → Steps b n) → (t : Bool) → eqb n w ≡ t
           → (t || elem n (from_base [] (λ b. walked ds left b) (base_of (held ds w)))) ≡ true → Steps w n
-      here more true q h = record { steps = 0; come = ap (λ (x : ℕ). some x) (sym (eqb-true n w q)) }
+      here more true q h = record { steps = 0; come = ap (λ (x : ℕ). Some x) (sym (eqb-true n w q)) }
       here more false q h = go more (base_of (held ds w)) refl h
 
 -- ---- the walks of all
@@ -88,7 +88,7 @@ record Reached (ds : List Dump) (wanted : List ℕ) (n : ℕ) : Type 0 where
   pub from : ℕ
   pub is-wanted : elem from wanted ≡ true
   pub steps : ℕ
-  pub come : comes ds steps from ≡ some n
+  pub come : comes ds steps from ≡ Some n
 
 module _ (ds : List Dump) where
   reaches_reached : (wanted : List ℕ) (n : ℕ) → reaches ds wanted n ≡ true → Reached ds wanted n
@@ -148,12 +148,12 @@ module _ (store : List ℕ) where
   wanted_needed n e = record { wanted = n; is-wanted = e; steps = 0; come = refl }
 
   -- and with each dump its base
-  pub needed_base : (n base : ℕ) → Needed store n → base_of (held (dumps_of store) n) ≡ some base → Needed store base
+  pub needed_base : (n base : ℕ) → Needed store n → base_of (held (dumps_of store) n) ≡ Some base → Needed store base
   unfolding comes
   needed_base n base k q =
       record {
         wanted = k.wanted;
         is-wanted = k.is-wanted;
         steps = k.steps + 1;
-        come = comes_join (dumps_of store) k.wanted k.steps 1 n base k.come (ap (from_base none (λ x. some x)) q);
+        come = comes_join (dumps_of store) k.wanted k.steps 1 n base k.come (ap (from_base None (λ x. Some x)) q);
       }

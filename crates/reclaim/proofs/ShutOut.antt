@@ -1,4 +1,5 @@
 -- Wrong outcomes of `mark` and `collect` that their promises shut out, each on a concrete store. Assumes nothing.
+use Rattle.std.specs.Prelude.{Result, Ok, Err}
 use mathlib.Core.Path.{◌≡◌, ap}
 use mathlib.Core.List.{List, ◌++◌}
 use Prim.Native.Nat.{ℕ}
@@ -11,17 +12,13 @@ use Rattle.store.specs.Store.{is_data, body_size, records_after, follows_by, all
 use Rattle.store.specs.Samples.{one, two, bare}
 use Rattle.reclaim.specs.Reclaim as paper
 use Rattle.reclaim.specs.Samples.{gone, one_gone}
-use Rattle.reclaim.specs.declared.Marked.{Marked}
-use Rattle.reclaim.specs.declared.Marked.TheVariants as marked
-use Rattle.reclaim.specs.declared.Collected.{Collected}
-use Rattle.reclaim.specs.declared.Collected.TheVariants as collected
 use Rattle.reclaim.proofs.mark.Kinds as mark-kinds
 use Rattle.reclaim.proofs.mark.Reads as mark
 use Rattle.reclaim.proofs.collect.Kinds as collect-kinds
 use Rattle.reclaim.proofs.collect.Reads as collect
 
 -- `mark` answers this of this store and number
-abbrev WrongMark : List ℕ → ℕ → Marked → Type 0
+abbrev WrongMark : List ℕ → ℕ → (Result (Unit {0}) Fault) → Type 0
 WrongMark store number answer =
     ShutOut 1 mark-kinds.ps mark-kinds.r mark.Post (λ κs a x s. (a.0.now ≡ store) × (a.1.0 ≡ number) × (x ≡ answer))
 
@@ -31,7 +28,7 @@ MarkLeaves store number index byte =
     ShutOut 1 mark-kinds.ps mark-kinds.r mark.Post (λ κs a x s. (a.0.now ≡ store) × (a.1.0 ≡ number) × (get_or s.0.now index 0 ≡ byte))
 
 -- `collect` answers this of this store
-abbrev Wrong : List ℕ → Collected → Type 0
+abbrev Wrong : List ℕ → (Result ℕ Fault) → Type 0
 Wrong store answer = ShutOut 1 collect-kinds.ps collect-kinds.r collect.Post (λ κs a x s. (a.0.now ≡ store) × (x ≡ answer))
 
 -- it leaves such a byte at an index
@@ -44,20 +41,20 @@ Leaves store index byte = ShutOut 1 collect-kinds.ps collect-kinds.r collect.Pos
 -- what stands on a walk that ends Missing (missing_freed); that cuts a ring open (ring_cut); that keeps a ring that no wanted dump leads
 -- into (ring_kept); that reorders (order); that leaves freed bytes (freed).
 record Outcomes : Type 0 where
-  held : (fault : Fault) → WrongMark (two ++ one) 1 (marked.Refused fault)
-  again : (fault : Fault) → WrongMark (two ++ one_gone) 1 (marked.Refused fault)
-  missing : WrongMark (two ++ one) 3 marked.Done
+  held : (fault : Fault) → WrongMark (two ++ one) 1 (Err fault)
+  again : (fault : Fault) → WrongMark (two ++ one_gone) 1 (Err fault)
+  missing : WrongMark (two ++ one) 3 (Ok tt)
   unmarked : MarkLeaves (two ++ one) 2 0 0x02
   base : MarkLeaves (two ++ one) 2 12 0x11
   back : MarkLeaves (two ++ one_gone) 1 12 0x01
   kept : MarkLeaves (one ++ one) 1 0 0x11
-  any : (fault : Fault) → Wrong (two ++ one) (collected.Refused fault)
-  all : Wrong (gone 2 1 ++ one) (collected.Length 14)
+  any : (fault : Fault) → Wrong (two ++ one) (Err fault)
+  all : Wrong (gone 2 1 ++ one) (Ok 14)
   all-bytes : Leaves (gone 2 1 ++ one) 0 0x12
-  base_freed : Wrong (two ++ one_gone) (collected.Length 12)
-  missing_freed : Wrong (gone 2 9 ++ (one_gone ++ bare 3 2)) (collected.Length 5)
-  ring_cut : Wrong (gone 2 3 ++ (bare 4 3 ++ gone 3 2)) (collected.Length 10)
-  ring_kept : Wrong (gone 2 3 ++ (one ++ gone 3 2)) (collected.Length 19)
+  base_freed : Wrong (two ++ one_gone) (Ok 12)
+  missing_freed : Wrong (gone 2 9 ++ (one_gone ++ bare 3 2)) (Ok 5)
+  ring_cut : Wrong (gone 2 3 ++ (bare 4 3 ++ gone 3 2)) (Ok 10)
+  ring_kept : Wrong (gone 2 3 ++ (one ++ gone 3 2)) (Ok 19)
   order : Leaves (bare 2 1 ++ one) 0 0x01
   freed : Leaves (one ++ gone 2 1) 9 0x12
 

@@ -1,7 +1,7 @@
 -- Dumps that stay with their bases are restored and described as before, however many others there are (02, T-13). Assumes nothing.
+use Rattle.std.specs.Prelude.{Option, None, Some}
 use mathlib.Core.Path.{◌≡◌, refl, sym, ap, ◌∙◌}
 use mathlib.Core.Bool.{Bool}
-use mathlib.Core.Option.{Option, none, some}
 use mathlib.Core.List.{List, [], ◌∷◌}
 use Prim.Native.Nat.{ℕ, zero, suc, ◌+◌}
 use native.Mathlib.Nat.{suc-add}
@@ -35,9 +35,9 @@ module _ (ds : List Dump) where
       go : ((b : ℕ) → (walk ds left b ≡ ring → ⊥) → sizes ds (left + k) b ≡ sizes ds left b) → (o : Option Dump)
           → (end_of o (λ b. walk ds left b) ≡ ring → ⊥)
           → (size ∷ from_base [] (λ b. sizes ds (left + k) b) (base_of o)) ≡ size ∷ from_base [] (λ b. sizes ds left b) (base_of o)
-      go more none w = refl
-      go more (some (whole number group id bytes)) w = refl
-      go more (some (delta number base patches)) w = ap (λ (l : List ℕ). size ∷ l) (more base w)
+      go more None w = refl
+      go more (Some (whole number group id bytes)) w = refl
+      go more (Some (delta number base patches)) w = ap (λ (l : List ℕ). size ∷ l) (more base w)
 
   described_more : (left n k : ℕ) → (walk ds left n ≡ ring → ⊥) → described ds (left + k) n ≡ described ds left n
   unfolding described
@@ -72,16 +72,16 @@ module _ (ds : List Dump) where
 -- ---- dumps that agree on numbers closed under bases
 
 module _ (ds es : List Dump) (On : ℕ → Type 0) (agree : (m : ℕ) → On m → held ds m ≡ held es m)
-    (closed : (m b : ℕ) → On m → base_of (held ds m) ≡ some b → On b) where
+    (closed : (m b : ℕ) → On m → base_of (held ds m) ≡ Some b → On b) where
   comes_agree : (k n : ℕ) → On n → comes ds k n ≡ comes es k n
   unfolding comes
   comes_agree zero n on = refl
   comes_agree (suc k) n on = rw (← (agree n on)) (go (λ b h. comes_agree k b h) (base_of (held ds n)) refl)
     where
       go : ((b : ℕ) → On b → comes ds k b ≡ comes es k b) → (o : Option ℕ) → base_of (held ds n) ≡ o
-          → from_base none (λ b. comes ds k b) o ≡ from_base none (λ b. comes es k b) o
-      go more none q = refl
-      go more (some b) q = more b (closed n b on q)
+          → from_base None (λ b. comes ds k b) o ≡ from_base None (λ b. comes es k b) o
+      go more None q = refl
+      go more (Some b) q = more b (closed n b on q)
 
   -- by their own counts
   counts : suc (length ds) + suc (length es) ≡ suc (length es) + suc (length ds)
@@ -110,7 +110,7 @@ module _ (store : List ℕ) where
   pub staying_held : (n : ℕ) → Needed store n → held (dumps_of store) n ≡ held staying n
   staying_held n k = sym (held_kept (stays store) n (needed_stays store n k) (dumps_of store))
 
-  pub freed-held : (n : ℕ) → (Needed store n → ⊥) → held staying n ≡ none
+  pub freed-held : (n : ℕ) → (Needed store n → ⊥) → held staying n ≡ None
   freed-held n h = held-freed (stays store) n (freed_goes store n h) (dumps_of store)
 
   pub staying_comes : (k n : ℕ) → Needed store n → comes (dumps_of store) k n ≡ comes staying k n

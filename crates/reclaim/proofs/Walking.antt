@@ -1,8 +1,8 @@
 -- Numbers flagged along the walks of the wanted dumps. Assumes nothing.
+use Rattle.std.specs.Prelude.{Option, None, Some}
 use mathlib.Core.Path.{◌≡◌, refl, sym, ap, ◌∙◌}
 use mathlib.Core.Logic.{◌⊎◌, inl, inr}
 use mathlib.Core.Bool.{Bool, true, false, cond, ◌||◌}
-use mathlib.Core.Option.{Option, none, some}
 use mathlib.Core.List.{List, [], ◌∷◌, ◌++◌, append-nil, append_assoc}
 use Prim.Native.Nat.{ℕ, zero, suc, ◌+◌, ◌≤◌, ◌<◌}
 use native.Mathlib.Omega.{arith}
@@ -87,7 +87,7 @@ module _ {store before : List ℕ} {n : ℕ} {kept : List ℕ} {current : ℕ} (
       go true q e = inl (eqb-true m current q)
       go false q e = inr e
 
-  keeping_after : (Pending : ℕ → Type 0) → ((base : ℕ) → base_of (held (dumps_of store) current) ≡ some base → Pending base) → Keeping store after Pending
+  keeping_after : (Pending : ℕ → Type 0) → ((base : ℕ) → base_of (held (dumps_of store) current) ≡ Some base → Pending base) → Keeping store after Pending
   keeping_after Pending pending =
       record {
         table = l ∙ g.keeping.table;
@@ -103,7 +103,7 @@ module _ {store before : List ℕ} {n : ℕ} {kept : List ℕ} {current : ℕ} (
       old base (inl h) = inl (flagged_still base h)
       old base (inr e) = inl (ap (flagged after) e ∙ flagged_here)
 
-      closes : {m : ℕ} (base : ℕ) → base_of (held (dumps_of store) m) ≡ some base → (m ≡ current) ⊎ (flagged kept m ≡ true)
+      closes : {m : ℕ} (base : ℕ) → base_of (held (dumps_of store) m) ≡ Some base → (m ≡ current) ⊎ (flagged kept m ≡ true)
           → (flagged after base ≡ true) ⊎ Pending base
       closes base e (inl q) = inr (pending base (rw q at e))
       closes {m} base e (inr h) = old base (g.keeping.closed m base h e)
@@ -113,7 +113,7 @@ module _ {store before : List ℕ} {n : ℕ} {kept : List ℕ} {current : ℕ} (
   flagged-start (inr h) = flagged_still n h
 
   -- the walk ends
-  pub going_ends : none ≡ base_of (held (dumps_of store) current) → Walks store before n after
+  pub going_ends : None ≡ base_of (held (dumps_of store) current) → Walks store before n after
   going_ends e =
       record {
         settled = keeping_after (λ base. ⊥) (λ base q. never_none (e ∙ q));
@@ -122,7 +122,7 @@ module _ {store before : List ℕ} {n : ℕ} {kept : List ℕ} {current : ℕ} (
       }
 
   -- or goes on
-  pub going_on : {base : ℕ} → some base ≡ base_of (held (dumps_of store) current) → base < 65536 → Going store before n after base
+  pub going_on : {base : ℕ} → Some base ≡ base_of (held (dumps_of store) current) → base < 65536 → Going store before n after base
   going_on {base} e small =
       record {
         keeping = keeping_after (λ next. next ≡ base) (λ next q. cc);
@@ -165,12 +165,12 @@ module _ (kept after : List ℕ) (still : (m : ℕ) → flagged kept m ≡ true 
       go less false q h = omega (arith, one_fewer n, less h)
 
 -- a number with a base is one of the dumps'
-pub based_held : (ds : List Dump) (n : ℕ) {base : ℕ} → some base ≡ base_of (held ds n) → elem n (numbers_of ds) ≡ true
+pub based_held : (ds : List Dump) (n : ℕ) {base : ℕ} → Some base ≡ base_of (held ds n) → elem n (numbers_of ds) ≡ true
 based_held ds n {base} e = go (held ds n) refl e
   where
-    go : (o : Option Dump) → held ds n ≡ o → some base ≡ base_of o → elem n (numbers_of ds) ≡ true
-    go none q h = never_none (sym h)
-    go (some d) q h = held_number ds n q
+    go : (o : Option Dump) → held ds n ≡ o → Some base ≡ base_of o → elem n (numbers_of ds) ≡ true
+    go None q h = never_none (sym h)
+    go (Some d) q h = held_number ds n q
 
 -- ---- all wanted dumps
 
@@ -192,13 +192,13 @@ passing_start store {kept} e =
       all = λ n h. not_both h refl;
       settled = record {
         table = ap length e ∙ length-replicate {A = ℕ} 8192 0;
-        needed = λ m f. not_both f (none m);
-        closed = λ m base f q. not_both f (none m);
+        needed = λ m f. not_both f (None m);
+        closed = λ m base f q. not_both f (None m);
       };
     }
   where
-    none : (m : ℕ) → flagged kept m ≡ false
-    none m = none-flagged 8192 e m
+    None : (m : ℕ) → flagged kept m ≡ false
+    None m = none-flagged 8192 e m
 
 module _ {store : List ℕ} {at : ℕ} {kept : List ℕ} (p : Passing store at kept) (h : at < length store) where
   pub passing_past : is_wanted (get_or store at 0) ≡ false → Passing store (next_at store at) kept
@@ -236,7 +236,7 @@ module _ {store : List ℕ} {at : ℕ} {kept : List ℕ} (p : Passing store at k
         go m false false e f h = not_both h refl
 
 -- a walk from a number that is flagged comes to such numbers alone
-flagged-along : {store kept : List ℕ} → Settled store kept → (steps m k : ℕ) → flagged kept m ≡ true → comes (dumps_of store) steps m ≡ some k
+flagged-along : {store kept : List ℕ} → Settled store kept → (steps m k : ℕ) → flagged kept m ≡ true → comes (dumps_of store) steps m ≡ Some k
     → flagged kept k ≡ true
 unfolding comes
 flagged-along {store} {kept} s zero m k f e = let same : k ≡ m = cc in ap (flagged kept) same ∙ f
@@ -246,10 +246,10 @@ flagged-along {store} {kept} s (suc steps) m k f e = go (λ b g h. flagged-along
     on base (inl g) = g
     on base (inr z) = absurd z
 
-    go : ((b : ℕ) → flagged kept b ≡ true → comes (dumps_of store) steps b ≡ some k → flagged kept k ≡ true)
-        → (o : Option ℕ) → base_of (held (dumps_of store) m) ≡ o → from_base none (λ b. comes (dumps_of store) steps b) o ≡ some k → flagged kept k ≡ true
-    go more none q h = never_none h
-    go more (some base) q h = more base (on base (s.closed m base f q)) h
+    go : ((b : ℕ) → flagged kept b ≡ true → comes (dumps_of store) steps b ≡ Some k → flagged kept k ≡ true)
+        → (o : Option ℕ) → base_of (held (dumps_of store) m) ≡ o → from_base None (λ b. comes (dumps_of store) steps b) o ≡ Some k → flagged kept k ≡ true
+    go more None q h = never_none h
+    go more (Some base) q h = more base (on base (s.closed m base f q)) h
 
 -- at the end what is flagged is what stays
 pub passing_end : {store : List ℕ} {at : ℕ} {kept : List ℕ} → Passing store at kept → length store ≤ at → Kept store kept

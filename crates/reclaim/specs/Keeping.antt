@@ -1,7 +1,6 @@
 -- What the code's table and its steps mean. For the code's own promises; no public promise needs it.
 -- Assumes nothing.
-use Rattle.std.specs.Prelude.{◌≡◌, ◌⊎◌, Bool, true, false, List, ◌++◌, ℕ, ◌+◌, length, drop}
-use Rattle.std.proofs.Math.Option.{some}
+use Rattle.std.specs.Prelude.{Some, ◌≡◌, ◌⊎◌, Bool, true, false, List, ◌++◌, ℕ, ◌+◌, length, drop}
 use Rattle.std.proofs.Math.Seq.{paste}
 use Rattle.ump.specs.Edits.{elem}
 use Rattle.store.specs.Store.{dumps_of, held}
@@ -14,7 +13,7 @@ use Rattle.reclaim.specs.Reclaimed.{Needed}
 pub record Keeping (store kept : List ℕ) (Pending : ℕ → Type 0) : Type 0 where
   pub table : length kept ≡ 8192
   pub needed : (m : ℕ) → flagged kept m ≡ true → Needed store m
-  pub closed : (m base : ℕ) → flagged kept m ≡ true → base_of (held (dumps_of store) m) ≡ some base → (flagged kept base ≡ true) ⊎ Pending base
+  pub closed : (m base : ℕ) → flagged kept m ≡ true → base_of (held (dumps_of store) m) ≡ Some base → (flagged kept base ≡ true) ⊎ Pending base
 
 -- nothing is pending
 abbrev pub Settled : List ℕ → List ℕ → Type 0

@@ -1,6 +1,5 @@
 -- Reclaiming the store: marking, collecting; what the answers mean; what is promised of both; samples.
 pub mod Reclaim
-pub mod Meaning
 pub mod Keeping
 pub mod Reclaimed
 pub mod Samples

@@ -1,7 +1,6 @@
 -- What is promised of marking and collecting (02, T-13), of any calls.
 -- Assumes nothing.
-use Rattle.std.specs.Prelude.{◌≡◌, ◌↔◌, true, false, not, ◌&&◌, List, [], ◌∷◌, ◌++◌, ℕ, suc, ◌+◌, ◌-◌, ◌≤◌, ◌<◌, eqb, length, get_or, take, drop, set, replicate}
-use Rattle.std.proofs.Math.Option.{some}
+use Rattle.std.specs.Prelude.{Some, ◌≡◌, ◌↔◌, true, false, not, ◌&&◌, List, [], ◌∷◌, ◌++◌, ℕ, suc, ◌+◌, ◌-◌, ◌≤◌, ◌<◌, eqb, length, get_or, take, drop, set, replicate}
 use Rattle.refusal.specs.Answer.{Answer, gives, refused, Verdict, pass}
 use Rattle.ump.specs.Word.{pair_at}
 use Rattle.ump.specs.Limits.{most_words}
@@ -17,7 +16,7 @@ pub record Needed (store : List ℕ) (n : ℕ) : Type 0 where
   pub wanted : ℕ
   pub is-wanted : elem wanted (wanted_of store) ≡ true
   pub steps : ℕ
-  pub come : comes (dumps_of store) steps wanted ≡ some n
+  pub come : comes (dumps_of store) steps wanted ≡ Some n
 
 -- at most one byte is another: the kind in the record that begins the dump of this number
 pub record MarksOne (store : List ℕ) (n : ℕ) (left : List ℕ) : Type 0 where
@@ -29,7 +28,7 @@ pub record MarksOne (store : List ℕ) (n : ℕ) (left : List ℕ) : Type 0 wher
 
 -- a store made of dumps of another
 abbrev pub PartOf : List ℕ → List ℕ → Type 0
-PartOf other store = (n : ℕ) (d : Dump) → held (dumps_of other) n ≡ some d → held (dumps_of store) n ≡ some d
+PartOf other store = (n : ℕ) (d : Dump) → held (dumps_of other) n ≡ Some d → held (dumps_of store) n ≡ Some d
 
 -- ---- the calls
 
@@ -46,7 +45,7 @@ abbrev pub Collector : Type 1
 Collector = List ℕ → Answer ℕ → List ℕ → Type 0
 
 pub record Reclaimed (Checks : Checker) (Restores : Restorer) (Describes : Describer) (Marks : Marker) (Collects : Collector) : Type 0 where
-  -- Each store and number have an outcome, so that nothing here is said of none (of restoring and describing: `Chained.answers`).
+  -- Each store and number have an outcome, so that nothing here is said of None (of restoring and describing: `Chained.answers`).
   pub answers : (store : List ℕ)
       → Answers (λ (answer : Answer ℕ) (left : Unit {0}). Checks store answer) × ((n : ℕ) → Answers (Marks store n)) × Answers (Collects store)
   -- A refusal leaves the store as it was.
@@ -78,7 +77,7 @@ pub record Reclaimed (Checks : Checker) (Restores : Restorer) (Describes : Descr
       → (sound (take len left) ≡ pass) × (records_of (take len left) ≡ kept_in (stays store) false (records_of store))
   -- so that it holds exactly these dumps,
   pub kept_exactly : {store : List ℕ} {len : ℕ} {left : List ℕ} → Collects store (gives len) left
-      → (n : ℕ) (d : Dump) → (held (dumps_of (take len left)) n ≡ some d) ↔ ((held (dumps_of store) n ≡ some d) × Needed store n)
+      → (n : ℕ) (d : Dump) → (held (dumps_of (take len left)) n ≡ Some d) ↔ ((held (dumps_of store) n ≡ Some d) × Needed store n)
   -- and the same dumps are wanted.
   pub same_wanted : {store : List ℕ} {len : ℕ} {left : List ℕ} → Collects store (gives len) left → wanted_of (take len left) ≡ wanted_of store
   -- Each wanted dump, and each that one rests on, is restored as before: the same answer, whatever it is, and the same words left;
@@ -103,19 +102,19 @@ pub record Reclaimed (Checks : Checker) (Restores : Restorer) (Describes : Descr
       → elem (dump_number d) (numbers_of (dumps_of store)) ≡ true → (Needed store (dump_number d) → ⊥)
       → {answer then : Answer ℕ} → Checks (store ++ more) answer → Checks (take len left ++ more) then
       → (answer ≡ refused 22 0) × (then ≡ gives (suc (length (dumps_of (take len left)))))
-      × (held (dumps_of (take len left ++ more)) (dump_number d) ≡ some d)
+      × (held (dumps_of (take len left ++ more)) (dump_number d) ≡ Some d)
   -- Collecting again changes nothing further.
   pub collects_again : {store : List ℕ} {len : ℕ} {left : List ℕ} → Collects store (gives len) left
       → {answer : Answer ℕ} {after : List ℕ} → Collects (take len left) answer after → (answer ≡ gives len) × (after ≡ take len left)
-  -- Nothing less would do. Take a store made of dumps of this one that answers the same for a wanted dump, for some words lent, and the
+  -- Nothing less would do. Take a store made of dumps of this one that answers the same for a wanted dump, for Some words lent, and the
   -- answer is not Missing: it holds each dump of that walk. Nor would it do where the answer is Missing, as soon as what lacks is added:
   -- `more` stands behind both.
   pub fewest : (store other more : List ℕ) → sound store ≡ pass → sound other ≡ pass → PartOf other store
       → well_formed at_start (records_of more) ≡ true → sound (store ++ more) ≡ pass → sound (other ++ more) ≡ pass
-      → (w n steps : ℕ) {d : Dump} → elem w (wanted_of store) ≡ true → comes (dumps_of store) steps w ≡ some n → held (dumps_of store) n ≡ some d
+      → (w n steps : ℕ) {d : Dump} → elem w (wanted_of store) ≡ true → comes (dumps_of store) steps w ≡ Some n → held (dumps_of store) n ≡ Some d
       → {words : List ℕ} {answer : Answer ℕ} {old new : List ℕ} → length words ≤ most_words → (answer ≡ refused 24 0 → ⊥)
       → Restores (store ++ more) w words answer old → Restores (other ++ more) w words answer new
-      → held (dumps_of other) n ≡ some d
+      → held (dumps_of other) n ≡ Some d
 
 -- each outcome of such calls is the definition's, and the definition's is one
 pub record PromisedStore (Checks : Checker) (Restores : Restorer) (Describes : Describer) (Marks : Marker) (Collects : Collector) : Type 0 where

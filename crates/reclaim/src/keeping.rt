@@ -16,8 +16,7 @@ fn keep_walk(store: &[u8], places: &[usize], number: usize, kept: &mut [u8])
     let mut current = number;
     while !is_flagged(kept, current) {
         flag(kept, current);
-        let basis = basis_of(store, places, current);
-        let Basis::Delta(base) = basis else {
+        let Basis::Delta(base) = basis_of(store, places, current) else {
             return;
         };
         current = base;
@@ -35,6 +34,7 @@ fn keep_here(store: &[u8], places: &[usize], at: usize, kept: &mut [u8])
 }
 
 // Flags the walks of all wanted dumps, with no number flagged yet.
+// A `while`: the step is a record's length, which its kind says.
 pub(crate) fn keep(store: &[u8], places: &[usize], kept: &mut [u8])
     requires { Noted store.now places.now × (kept.old ≡ replicate 8192 0) }
     ensures { Kept store.now kept.new }

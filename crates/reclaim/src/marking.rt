@@ -22,13 +22,11 @@ fn begins_here(store: &[u8], at: usize, number: usize) -> bool
     requires { at < length store.now }
     ensures { result ≡ is_dump (get_or store.now at 0) && eqb (pair_at store.now (at + 1)) number }
 {
-    if !is_dump(store[at]) {
-        return false;
-    }
-    number_at(store, at + 1) == number
+    is_dump(store[at]) && number_at(store, at + 1) == number
 }
 
 // Marks the dump of this number, and answers whether there is one.
+// A `while`: the step is a record's length, which its kind says.
 pub(crate) fn mark_dump(store: &mut [u8], number: usize) -> bool
     ensures { (result ≡ elem number (numbers_of (dumps_of store.old)))
         × (store.new ≡ marked store.old number) }

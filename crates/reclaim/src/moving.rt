@@ -23,19 +23,6 @@ fn is_staying(store: &[u8], at: usize, kept: &[u8], on: bool) -> bool
     is_flagged(kept, number_at(store, at + 1))
 }
 
-// Moves `size` bytes from `at` down to `done`.
-fn shift(store: &mut [u8], at: usize, done: usize, size: usize)
-    requires { (done ≤ at) × (at + size ≤ length store.old) }
-    ensures { store.new ≡ paste store.old done (drop at store.old) size }
-{
-    let mut index = 0;
-    while index < size {
-        let moved = store[at + index];
-        store[done + index] = moved;
-        index += 1;
-    }
-}
-
 // Moves a record that stays down behind the `done` bytes, and answers how many they are then.
 fn pass_down(store: &mut [u8], at: usize, done: usize, size: usize, on: bool) -> usize
     requires { (done ≤ at) × (at + size ≤ length store.old) }
@@ -44,11 +31,12 @@ fn pass_down(store: &mut [u8], at: usize, done: usize, size: usize, on: bool) ->
     if !on {
         return done;
     }
-    shift(store, at, done, size);
+    store.copy_within(at..at + size, done);
     done + size
 }
 
 // Moves the records of all dumps that stay down, in their old order, and answers their length.
+// A `while`: the step is a record's length, which its kind says.
 fn compact(store: &mut [u8], kept: &[u8]) -> usize
     requires { Kept store.old kept.now }
     ensures { (result ≤ length store.new) × (take result store.new ≡ collected store.old) }
@@ -70,11 +58,7 @@ fn clear_from(store: &mut [u8], from: usize)
     requires { from ≤ length store.old }
     ensures { store.new ≡ take from store.old ++ replicate (length store.old - from) 0 }
 {
-    let mut index = from;
-    while index < store.len() {
-        store[index] = 0;
-        index += 1;
-    }
+    store[from..].fill(0);
 }
 
 // Collects a good store, whose dumps stand at these places, and answers its new length.

@@ -2,8 +2,10 @@
 // Numbers are upper-case hex, those of a list one space apart; an empty field is an empty list.
 #![tactic(auto)]
 
-ghost use Rattle.std.specs.Prelude.{◌≡◌, true, ◌≤◌, length};
-ghost use Rattle.recorded_lines.specs.Fits.{FieldFits, RecordFits};
+ghost use Rattle.std.specs.Prelude.{◌≤◌, length, IfSome};
+ghost use Rattle.recorded_lines.specs.Fits.{RecordFits};
+
+use std::num::TryFromIntError;
 
 // The most words of a record.
 pub const WORDS: usize = 512;
@@ -17,22 +19,8 @@ pub const NUMBERS: usize = 64;
 // The most numbers of a recorded answer.
 pub const ANSWER: usize = 2048;
 
-// A number, and the place behind it.
-#[derive(Drop)]
-struct Number {
-    value: usize,
-    next: usize,
-}
-
-// How many numbers a field has, and the place behind it; or it is no list of numbers.
-#[derive(Drop)]
-enum Field {
-    Numbers(usize, usize),
-    Wrong,
-}
-
 // A record's kind, how many words, bytes, numbers and numbers of the answer it has, and whether it is of a listed difference.
-#[derive(Drop)]
+#[derive(Clone, Copy, Debug, PartialEq, Eq)]
 pub struct Record {
     pub kind: usize,
     pub words: usize,
@@ -42,174 +30,56 @@ pub struct Record {
     pub listed: bool,
 }
 
-// What a line is.
-#[derive(Drop)]
-pub enum Parsed {
-    Record(Record),
-    NoRecord,
-}
-
-// The value of a digit; 16 for any other byte.
-fn digit_of(byte: u8) -> usize {
+// The value of an upper-case hex digit.
+fn digit_of(byte: u8) -> Option<usize> {
     match byte {
-        b'0'..=b'9' => (byte - b'0') as usize,
-        b'A'..=b'F' => (byte - b'A' + 10) as usize,
-        _ => 16,
+        b'0'..=b'9' => Some((byte - b'0') as usize),
+        b'A'..=b'F' => Some((byte - b'A' + 10) as usize),
+        _ => None,
     }
 }
 
-// The number that begins at a place; it ends before what is no digit, and before a digit that would not fit.
-fn number_at(line: &[u8], from: usize) -> Number {
-    let mut value = 0;
-    let mut at = from;
-    while at < line.len() {
-        let digit = digit_of(line[at]);
-        if digit > 15 {
-            return Number { value, next: at };
-        }
-        if value > 0xFFF_FFFF_FFFF_FFFF {
-            return Number { value, next: at };
-        }
-        value = value * 16 + digit;
-        at += 1;
+// The number of these digits, none or more; None for what is no digit, or a number that does not fit.
+fn number(digits: &[u8]) -> Option<usize> {
+    let mut value = 0usize;
+    for digit in digits {
+        value = value.checked_mul(16)?.checked_add(digit_of(*digit)?)?;
     }
-    Number { value, next: at }
+    Some(value)
 }
 
-// The numbers from a place on, one space apart, up to a ; or the line's end: one or more.
-fn list(line: &[u8], from: usize, values: &mut [usize]) -> Field
-    ensures { FieldFits result (length values.old) }
+// Stores the numbers of a field, one space apart; answers how many. None where the field is no list of numbers, or they are too many.
+fn store_numbers(field: &[u8], numbers: &mut [usize]) -> Option<usize>
+    ensures { IfSome result (λ count. count ≤ length numbers.old) }
 {
-    let mut at = from;
     let mut count = 0;
-    while count < values.len() {
-        let found = number_at(line, at);
-        let next = found.next;
-        if next == at {
-            return Field::Wrong;
+    if field.is_empty() {
+        return Some(count);
+    }
+    for digits in field.split(|byte| *byte == b' ') {
+        if digits.is_empty() {
+            return None;
         }
-        values[count] = found.value;
+        *numbers.get_mut(count)? = number(digits)?;
         count += 1;
-        if next >= line.len() {
-            return Field::Numbers(count, next);
-        }
-        if line[next] == b';' {
-            return Field::Numbers(count, next);
-        }
-        if line[next] != b' ' {
-            return Field::Wrong;
-        }
-        at = next + 1;
     }
-    Field::Wrong
+    Some(count)
 }
 
-// The numbers of the field whose ; stands at a place; an empty field has none.
-fn field_at(line: &[u8], from: usize, values: &mut [usize]) -> Field
-    ensures { FieldFits result (length values.old) }
+// Stores the numbers of a field in these values of another type. None also where one does not fit.
+// By way of numbers: the check makes no proof of a loop over `split` in a generic function.
+fn store_values<T: Copy + TryFrom<usize, Error = TryFromIntError>>(
+    field: &[u8],
+    values: &mut [T],
+) -> Option<usize>
+    ensures { IfSome result (λ count. count ≤ length values.old) }
 {
-    if from >= line.len() {
-        return Field::Wrong;
+    let mut numbers = [0usize; BYTES];
+    let count = store_numbers(field, &mut numbers)?;
+    for at in 0..count {
+        *values.get_mut(at)? = T::try_from(numbers[at]).ok()?;
     }
-    if line[from] != b';' {
-        return Field::Wrong;
-    }
-    let begin = from + 1;
-    if begin >= line.len() {
-        return Field::Numbers(0, begin);
-    }
-    if line[begin] == b';' {
-        return Field::Numbers(0, begin);
-    }
-    list(line, begin, values)
-}
-
-// Copies the first values to words; answers whether all fit.
-fn to_words(values: &[usize], count: usize, words: &mut [u32]) -> bool
-    ensures { result ≡ true → count ≤ length words.old }
-{
-    if count > values.len() {
-        return false;
-    }
-    if count > words.len() {
-        return false;
-    }
-    let mut at = 0;
-    while at < count {
-        if values[at] > 0xFFFF_FFFF {
-            return false;
-        }
-        words[at] = values[at] as u32;
-        at += 1;
-    }
-    true
-}
-
-// Copies the first values to bytes; answers whether all fit.
-fn to_bytes(values: &[usize], count: usize, bytes: &mut [u8]) -> bool
-    ensures { result ≡ true → count ≤ length bytes.old }
-{
-    if count > values.len() {
-        return false;
-    }
-    if count > bytes.len() {
-        return false;
-    }
-    let mut at = 0;
-    while at < count {
-        if values[at] > 0xFF {
-            return false;
-        }
-        bytes[at] = values[at] as u8;
-        at += 1;
-    }
-    true
-}
-
-// A field of words, by way of these values.
-fn words_by(line: &[u8], from: usize, values: &mut [usize], words: &mut [u32]) -> Field
-    ensures { FieldFits result (length words.old) }
-{
-    let read = field_at(line, from, values);
-    let Field::Numbers(count, next) = read else {
-        return Field::Wrong;
-    };
-    if to_words(values, count, words) {
-        Field::Numbers(count, next)
-    } else {
-        Field::Wrong
-    }
-}
-
-// A field of words.
-fn word_field(line: &[u8], from: usize, words: &mut [u32]) -> Field
-    ensures { FieldFits result (length words.old) }
-{
-    let mut values = [0usize; WORDS];
-    words_by(line, from, &mut values, words)
-}
-
-// A field of bytes, by way of these values.
-fn bytes_by(line: &[u8], from: usize, values: &mut [usize], bytes: &mut [u8]) -> Field
-    ensures { FieldFits result (length bytes.old) }
-{
-    let read = field_at(line, from, values);
-    let Field::Numbers(count, next) = read else {
-        return Field::Wrong;
-    };
-    if to_bytes(values, count, bytes) {
-        Field::Numbers(count, next)
-    } else {
-        Field::Wrong
-    }
-}
-
-// A field of bytes.
-fn byte_field(line: &[u8], from: usize, bytes: &mut [u8]) -> Field
-    ensures { FieldFits result (length bytes.old) }
-{
-    let mut values = [0usize; BYTES];
-    bytes_by(line, from, &mut values, bytes)
+    Some(count)
 }
 
 // Takes a line apart into these slices.
@@ -219,33 +89,17 @@ pub fn parse(
     bytes: &mut [u8],
     numbers: &mut [usize],
     expected: &mut [usize],
-) -> Parsed
+) -> Option<Record>
     ensures { RecordFits result (length words.old) (length bytes.old) (length numbers.old)
         (length expected.old) }
 {
-    let kind = number_at(line, 0);
-    let first = word_field(line, kind.next, words);
-    let Field::Numbers(word_count, behind_words) = first else {
-        return Parsed::NoRecord;
-    };
-    let second = byte_field(line, behind_words, bytes);
-    let Field::Numbers(byte_count, behind_bytes) = second else {
-        return Parsed::NoRecord;
-    };
-    let third = field_at(line, behind_bytes, numbers);
-    let Field::Numbers(number_count, behind_numbers) = third else {
-        return Parsed::NoRecord;
-    };
-    let fourth = field_at(line, behind_numbers, expected);
-    let Field::Numbers(answer_count, behind_answer) = fourth else {
-        return Parsed::NoRecord;
-    };
-    Parsed::Record(Record {
-        kind: kind.value,
-        words: word_count,
-        bytes: byte_count,
-        numbers: number_count,
-        answer: answer_count,
-        listed: behind_answer < line.len(),
+    let mut fields = line.split(|byte| *byte == b';');
+    Some(Record {
+        kind: number(fields.next()?)?,
+        words: store_values(fields.next()?, words)?,
+        bytes: store_values(fields.next()?, bytes)?,
+        numbers: store_numbers(fields.next()?, numbers)?,
+        answer: store_numbers(fields.next()?, expected)?,
+        listed: fields.next().is_some(),
     })
 }

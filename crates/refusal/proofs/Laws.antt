@@ -1,18 +1,15 @@
 -- No two refusals share a number, and an answer is fixed by what it means. Assumes nothing.
+use Rattle.std.specs.Prelude.{Result, Ok, Err}
 use mathlib.Core.Path.{◌≡◌, refl, sym, ap, ◌∙◌}
 use mathlib.Core.Bool.{Bool, true, false}
 use Prim.Native.Nat.{ℕ, zero, suc, ◌<◌}
 use native.Mathlib.Omega.{arith}
 use Rattle.refusal.specs.Answer.{Answer, gives, refused, Verdict, pass, ◌▷◌, guard, writes_as, writes}
+use Rattle.refusal.specs.Meaning.{answer_of}
 use Rattle.refusal.specs.Number.{number_of, name_of, Named, accepted, named}
-use Rattle.refusal.specs.Meaning.{stored_meaning, byte_meaning}
 use Rattle.refusal.specs.declared.Refusal.{Refusal}
 use Rattle.refusal.specs.declared.Refusal.TheVariants.{Long, Length, Short, Ragged, «Type», Complete, Begin, Continue, End, Count, Group, Stream, Range, Room, Status, Field, Frame, Byte, Overlap, Format, Twice, Full, Missing, Ring, Other, Port, Closed, Share}
 use Rattle.refusal.specs.declared.Fault.{Fault}
-use Rattle.refusal.specs.declared.Stored.{Stored}
-use Rattle.refusal.specs.declared.Stored.TheVariants as stored
-use Rattle.refusal.specs.declared.ByteRead.{ByteRead}
-use Rattle.refusal.specs.declared.ByteRead.TheVariants as byte
 use Rattle.refusal.proofs.Tight.{once}
 
 -- ---- the numbers
@@ -82,27 +79,21 @@ fault_back number place = record { refusal = name_of number; place = place }
 pub fault-back : (f : Fault) → fault_back (number_of f.refusal) f.place ≡ f
 fault-back f = ap (λ (r : Refusal). record { refusal = r; place = f.place }) (name_of_number f.refusal)
 
-abbrev stored_back : Verdict → Stored
-stored_back (gives u) = stored.Done
-stored_back (refused number place) = stored.Refused (fault_back number place)
+-- the call that says so, where a name has the number
+abbrev pub answer_back : {A : Type 0} → Answer A → Result A Fault
+answer_back (gives value) = Ok value
+answer_back (refused number place) = Err (fault_back number place)
 
-stored_back_lem : (x : Stored) → stored_back (stored_meaning x) ≡ x
-stored_back_lem stored.Done = refl
-stored_back_lem (stored.Refused fault) = ap stored.Refused (fault-back fault)
+answer-back : {A : Type 0} (x : Result A Fault) → answer_back (answer_of x) ≡ x
+answer-back (Ok value) = refl
+answer-back (Err fault) = ap Err (fault-back fault)
 
-pub stored_once : (x y : Stored) → stored_meaning x ≡ stored_meaning y → x ≡ y
-stored_once = once stored_meaning stored_back stored_back_lem
+pub answer_once : {A : Type 0} (x y : Result A Fault) → answer_of x ≡ answer_of y → x ≡ y
+answer_once = once answer_of answer_back answer-back
 
-abbrev byte_back : Answer ℕ → ByteRead
-byte_back (gives value) = byte.Value value
-byte_back (refused number place) = byte.Refused (fault_back number place)
-
-byte-back : (x : ByteRead) → byte_back (byte_meaning x) ≡ x
-byte-back (byte.Value value) = refl
-byte-back (byte.Refused fault) = ap byte.Refused (fault-back fault)
-
-pub byte_once : (x y : ByteRead) → byte_meaning x ≡ byte_meaning y → x ≡ y
-byte_once = once byte_meaning byte_back byte-back
+pub answer_meant : {A : Type 0} (answer : Answer A) → Named answer → answer_of (answer_back answer) ≡ answer
+answer_meant (gives value) h = refl
+answer_meant (refused number place) (named r) = ap (λ (n : Refusal). refused (number_of n) place) (name_of_number r)
 
 -- ---- answers whose refusals have names
 

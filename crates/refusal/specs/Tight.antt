@@ -29,8 +29,8 @@ abbrev pub ShutOut : (n : ℕ) (ps : List (ParamKind n)) (r : ResultKind n) → 
 ShutOut n ps r P Wrong = (κs : Lfts n) (a : Dens κs ps) (x : (res_t r κs).Denot) (s : AtExit (ended_of n ps r) κs) → Wrong κs a x s → P κs a x s → ⊥
 
 -- the same of a call that takes values alone: no such answer to these arguments
-abbrev pub Shuts : {A X : Type 0} {S : Lfts 0 → Type 0} → ((κs : Lfts 0) → A → X → S κs → Type 0) → A → X → Type 0
-Shuts {S = S} P a x = (κs : Lfts 0) (s : S κs) → P κs a x s → ⊥
+abbrev pub Shuts : {Lifetimes A X : Type 0} {S : Lifetimes → Type 0} → ((κs : Lifetimes) → A → X → S κs → Type 0) → A → X → Type 0
+Shuts {Lifetimes = Lifetimes} {S = S} P a x = (κs : Lifetimes) (s : S κs) → P κs a x s → ⊥
 
 -- ---- a call
 

@@ -7,10 +7,15 @@ mod reply;
 mod tally;
 
 use std::io;
+use tally::Tally;
 
-// Room for the longest line and for the counts.
+// Room for the longest line. A line must have an end: bytes behind the last whole line, or that fill the room, are no record.
 fn main(rt: HostRuntime) -> io::Result<()> {
-    let mut buffer = [0u8; 65536];
-    let mut counts = [0usize; tally::COUNTS];
-    input::replay(&rt, &mut buffer, &mut counts)
+    let mut buffer = [0; 65536];
+    let mut tally = Tally::new();
+    if input::replay(&rt, &mut buffer, &mut tally)? > 0 {
+        tally.count_line();
+        tally.count_wrong(&rt)?;
+    }
+    tally.write(&rt)
 }

@@ -19,32 +19,43 @@
 //
 // A refusal of 12, 13, 22 to 27 and 35 to 37 is followed by the words lent.
 
-// Whether a record of a kind has so many numbers.
-fn takes(kind: usize, count: usize) -> bool {
-    match kind {
-        0x10..=0x11 => count == 0,
-        0x1..=0x6 | 0x12..=0x13 | 0x20 | 0x25 | 0x27 | 0x29 | 0x2B | 0x35 | 0x37 => count == 1,
-        0x9..=0xE | 0x22..=0x23 | 0x28 | 0x2A => count == 2,
-        0x24 | 0x26 | 0x36 => count == 3,
-        0x21 => count > 0,
-        _ => false,
+use replayed_packets::answer::{Answer, Stop};
+
+// A recorded call: on a word field or a single packet, or on a message or a byte stream.
+#[derive(Clone, Copy, Debug, PartialEq, Eq)]
+pub(crate) enum Call {
+    Packet(replayed_packets::Kind),
+    Message(replayed_messages::Kind),
+}
+
+impl TryFrom<usize> for Call {
+    type Error = Stop;
+
+    // The call of a kind.
+    fn try_from(kind: usize) -> Result<Call, Stop> {
+        match replayed_packets::Kind::try_from(kind) {
+            Ok(packet) => Ok(Call::Packet(packet)),
+            Err(_) => Ok(Call::Message(replayed_messages::Kind::try_from(kind)?)),
+        }
     }
 }
 
-// What ours answers to a record: how many numbers; none to what is no record.
-pub(crate) fn reply(
-    kind: usize,
-    words: &mut [u32],
-    bytes: &[u8],
-    numbers: &[usize],
-    answer: &mut [usize],
-) -> usize {
-    if !takes(kind, numbers.len()) {
-        return 0;
-    }
-    if kind < 0x20 {
-        replayed_packets::reply(kind, words, numbers, answer)
-    } else {
-        replayed_messages::reply(kind, words, bytes, numbers, answer)
+impl Call {
+    // What ours answers to a record of this call; none to what is no record.
+    pub(crate) fn reply(
+        self,
+        words: &mut [u32],
+        bytes: &[u8],
+        numbers: &[usize],
+    ) -> Option<Answer> {
+        let replied = match self {
+            Call::Packet(kind) => replayed_packets::reply(kind, words, numbers),
+            Call::Message(kind) => replayed_messages::reply(kind, words, bytes, numbers),
+        };
+        match replied {
+            Ok(answer) => Some(answer),
+            Err(Stop::Refused(fault)) => Some(Answer::from(fault)),
+            Err(Stop::NoRecord) => None,
+        }
     }
 }

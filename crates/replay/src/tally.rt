@@ -1,81 +1,139 @@
-// Counts of lines: one for each group of kinds, then listed differences, answers, those that differ, and lines read.
+// Counts of lines: of each group of calls, of listed differences, of answers, of those that differ, and of all.
+use crate::record::Compared;
+use crate::reply::Call;
+use replayed_messages::Kind as Message;
+use replayed_packets::Kind as Packet;
 use std::io;
 
-// How many counts there are, and which are no group's.
-pub(crate) const COUNTS: usize = 14;
-
-pub(crate) const LISTED: usize = 10;
-
-pub(crate) const ANSWERS: usize = 11;
-
-pub(crate) const DIFFER: usize = 12;
-
-pub(crate) const LINES: usize = 13;
-
-// The group of a kind.
-pub(crate) fn group_of(kind: usize) -> usize {
-    match kind {
-        0..=0xF => 0,
-        0x10..=0x1F => 1,
-        0x20 | 0x2A..=0x2B => 2,
-        0x21 => 3,
-        0x22..=0x24 => 4,
-        0x25 | 0x35 => 5,
-        0x26 | 0x36 => 6,
-        0x27 | 0x37 => 7,
-        0x28 => 8,
-        _ => 9,
-    }
+// A group of calls, a row of the table.
+#[derive(Clone, Copy, Debug, PartialEq, Eq)]
+enum Group {
+    Fields,
+    Packets,
+    Checks,
+    Readers,
+    Setters,
+    Packings,
+    Splices,
+    Payloads,
+    Streams,
+    Sizes,
 }
 
-// Adds one to a count.
-pub(crate) fn add(counts: &mut [usize], index: usize) {
-    if index < counts.len() {
-        let count = counts[index];
-        if count < 0xFFFF_FFFF {
-            counts[index] = count + 1;
+// The names of the groups.
+const NAMES: [&str; 10] = [
+    "word fields",
+    "packets",
+    "checks",
+    "readers",
+    "setters",
+    "packings",
+    "splices",
+    "set payloads",
+    "byte streams",
+    "words needed",
+];
+
+impl From<Packet> for Group {
+    fn from(kind: Packet) -> Group {
+        match kind {
+            Packet::Sysex8Packet | Packet::Sysex7Packet => Group::Packets,
+            Packet::SetSysex8Group | Packet::SetSysex7Group => Group::Packets,
+            _ => Group::Fields,
         }
     }
 }
 
-// Writes a count.
-fn write_count(rt: &impl Print, counts: &[usize], index: usize) -> io::Result<()> {
-    if index < counts.len() {
-        rt.print(counts[index])?;
+impl From<Message> for Group {
+    fn from(kind: Message) -> Group {
+        match kind {
+            Message::Check | Message::CheckLent | Message::CheckMany => Group::Checks,
+            Message::Read => Group::Readers,
+            Message::SetGroup | Message::SetStreamId | Message::SetByte => Group::Setters,
+            Message::Repack | Message::RepackLent => Group::Packings,
+            Message::Splice | Message::SpliceLent => Group::Splices,
+            Message::SetPayload | Message::SetPayloadLent => Group::Payloads,
+            Message::ToSysex7 => Group::Streams,
+            Message::WordsNeeded => Group::Sizes,
+        }
     }
-    Ok(())
 }
 
-// Writes that the line read last is not as it should be.
-pub(crate) fn write_line(rt: &impl Print, counts: &[usize], what: &[u8]) -> io::Result<()> {
-    rt.write_all(b"line ")?;
-    write_count(rt, counts, LINES)?;
-    rt.write_all(what)
+impl From<Call> for Group {
+    fn from(call: Call) -> Group {
+        match call {
+            Call::Packet(kind) => Group::from(kind),
+            Call::Message(kind) => Group::from(kind),
+        }
+    }
 }
 
-// Writes a row of the table: a name and its count.
-fn write_row(rt: &impl Print, counts: &[usize], name: &[u8], index: usize) -> io::Result<()> {
-    rt.write_all(name)?;
-    rt.write_all(b" ")?;
-    write_count(rt, counts, index)?;
-    rt.write_all(b"\n")
+// The counts, none of which grows past 32 bits.
+#[derive(Drop)]
+pub(crate) struct Tally {
+    groups: [u32; 10],
+    listed: u32,
+    answers: u32,
+    differing: u32,
+    lines: u32,
 }
 
-// Writes the table, and the last line.
-pub(crate) fn write_table(rt: &impl Print, counts: &[usize]) -> io::Result<()> {
-    write_row(rt, counts, b"word fields", 0)?;
-    write_row(rt, counts, b"packets", 1)?;
-    write_row(rt, counts, b"checks", 2)?;
-    write_row(rt, counts, b"readers", 3)?;
-    write_row(rt, counts, b"setters", 4)?;
-    write_row(rt, counts, b"packings", 5)?;
-    write_row(rt, counts, b"splices", 6)?;
-    write_row(rt, counts, b"set payloads", 7)?;
-    write_row(rt, counts, b"byte streams", 8)?;
-    write_row(rt, counts, b"words needed", 9)?;
-    write_row(rt, counts, b"listed differences", LISTED)?;
-    write_count(rt, counts, ANSWERS)?;
-    rt.write_all(b" answers, ")?;
-    write_count(rt, counts, DIFFER)?;
-    rt.write_all(b" differ\n")
+impl Tally {
+    // No line.
+    pub(crate) fn new() -> Tally {
+        Tally {
+            groups: [0; 10],
+            listed: 0,
+            answers: 0,
+            differing: 0,
+            lines: 0,
+        }
+    }
+
+    // Counts a line.
+    pub(crate) fn count_line(&mut self) {
+        self.lines = self.lines.saturating_add(1);
+    }
+
+    // Counts the line read last among those that differ, and writes its number.
+    fn count_differing(&mut self, rt: &impl Print, what: &str) -> io::Result<()> {
+        self.differing = self.differing.saturating_add(1);
+        let line = self.lines;
+        println!(rt; "line {line} {what}")
+    }
+
+    // Counts the line read last as no record.
+    pub(crate) fn count_wrong(&mut self, rt: &impl Print) -> io::Result<()> {
+        self.count_differing(rt, "is not a record")
+    }
+
+    // Counts the record in the line read last.
+    pub(crate) fn count_record(&mut self, rt: &impl Print, compared: Compared) -> io::Result<()> {
+        let group = Group::from(compared.call) as usize;
+        self.groups[group] = self.groups[group].saturating_add(1);
+        self.answers = self.answers.saturating_add(1);
+        if compared.listed {
+            self.listed = self.listed.saturating_add(1);
+        }
+        if compared.same {
+            Ok(())
+        } else {
+            self.count_differing(rt, "differs")
+        }
+    }
+
+    // Writes the table, and the last line.
+    pub(crate) fn write(&self, rt: &impl Print) -> io::Result<()> {
+        for (name, count) in NAMES.iter().zip(&self.groups) {
+            println!(rt; "{name} {count}")?;
+        }
+        let Tally {
+            listed,
+            answers,
+            differing,
+            ..
+        } = self;
+        println!(rt; "listed differences {listed}")?;
+        println!(rt; "{answers} answers, {differing} differ")
+    }
 }

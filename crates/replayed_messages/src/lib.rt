@@ -1,33 +1,93 @@
 // What our calls on messages and byte streams answer to the input of a record, as numbers: kinds from 20 hex on of program replay.
 #![tactic(auto)]
 
-use replayed_packets::number;
+mod changes;
+mod reads;
 
-mod messages;
-mod splices;
-mod streams;
+use replayed_packets::answer::{Answer, Stop, store};
 
-// Puts what ours answers to a record of a message or a byte stream, whose first number is a length, a group or a size; answers how many
-// numbers, none to what is no record.
+// A recorded call on a message or a byte stream. What ends in Lent is recorded with all words lent.
+#[derive(Clone, Copy, Debug, PartialEq, Eq)]
+pub enum Kind {
+    Check,
+    Read,
+    SetGroup,
+    SetStreamId,
+    SetByte,
+    Repack,
+    Splice,
+    SetPayload,
+    ToSysex7,
+    WordsNeeded,
+    CheckLent,
+    CheckMany,
+    RepackLent,
+    SpliceLent,
+    SetPayloadLent,
+}
+
+impl TryFrom<usize> for Kind {
+    type Error = Stop;
+
+    // The kind that a record writes as this number.
+    fn try_from(number: usize) -> Result<Kind, Stop> {
+        match number {
+            0x20 => Ok(Kind::Check),
+            0x21 => Ok(Kind::Read),
+            0x22 => Ok(Kind::SetGroup),
+            0x23 => Ok(Kind::SetStreamId),
+            0x24 => Ok(Kind::SetByte),
+            0x25 => Ok(Kind::Repack),
+            0x26 => Ok(Kind::Splice),
+            0x27 => Ok(Kind::SetPayload),
+            0x28 => Ok(Kind::ToSysex7),
+            0x29 => Ok(Kind::WordsNeeded),
+            0x2A => Ok(Kind::CheckLent),
+            0x2B => Ok(Kind::CheckMany),
+            0x35 => Ok(Kind::RepackLent),
+            0x36 => Ok(Kind::SpliceLent),
+            0x37 => Ok(Kind::SetPayloadLent),
+            _ => Err(Stop::NoRecord),
+        }
+    }
+}
+
+// What ours answers to a record of a message in the first `length` words, or of a byte stream.
 pub fn reply(
-    kind: usize,
+    kind: Kind,
     words: &mut [u32],
     bytes: &[u8],
     numbers: &[usize],
-    answer: &mut [usize],
-) -> usize {
-    let first = number(numbers, 0);
-    let second = number(numbers, 1);
-    let third = number(numbers, 2);
-    match kind {
-        0x20 => messages::check(words, first, answer),
-        0x21 => messages::read(words, first, numbers, answer),
-        0x22..=0x23 => messages::set(kind, words, first, 0, second, answer),
-        0x24 => messages::set(kind, words, first, second, third, answer),
-        0x28 => streams::write(bytes, first, second, answer),
-        0x29 => streams::words_needed(first, answer),
-        0x2A => messages::check_lent(words, first, second, answer),
-        0x2B => messages::check_many(words, first, answer),
-        _ => splices::change(kind, words, bytes, first, second, third, answer),
+) -> Result<Answer, Stop> {
+    match (kind, numbers) {
+        (Kind::Check, [length]) => reads::check(words, *length),
+        (Kind::CheckLent, [length, lent]) => reads::check_lent(words, *length, *lent),
+        (Kind::CheckMany, [packets]) => reads::check_many(words, *packets),
+        (Kind::Read, [length, skips @ ..]) => reads::read(words, *length, skips),
+        (Kind::SetGroup, [length, value]) => store(words, *value, |words, value| {
+            message::sysex8::set_group(words, *length, value)
+        }),
+        (Kind::SetStreamId, [length, value]) => store(words, *value, |words, value| {
+            message::sysex8::set_stream_id(words, *length, value)
+        }),
+        (Kind::SetByte, [length, index, value]) => store(words, *value, |words, value| {
+            message::sysex8::set_byte(words, *length, *index, value)
+        }),
+        (Kind::ToSysex7, [group, lent]) => changes::to_sysex7(bytes, *group, *lent),
+        (Kind::WordsNeeded, [size]) => Ok(Answer::of(&[splice::sysex8::words_needed(*size)])),
+        (Kind::Repack | Kind::RepackLent, [length]) => Ok(changes::change(kind, words, |words| {
+            splice::sysex8::repack(words, *length)
+        })),
+        (Kind::Splice | Kind::SpliceLent, [length, from, to]) => {
+            Ok(changes::change(kind, words, |words| {
+                Ok(splice::sysex8::splice(words, *length, *from, *to, bytes)?.length)
+            }))
+        }
+        (Kind::SetPayload | Kind::SetPayloadLent, [length]) => {
+            Ok(changes::change(kind, words, |words| {
+                Ok(splice::sysex8::set_payload(words, *length, bytes)?.length)
+            }))
+        }
+        (_, _) => Err(Stop::NoRecord),
     }
 }

@@ -1,87 +1,101 @@
-// An answer as numbers, put one behind the other into lent room. A number past the room is dropped, so that a full answer is one that did
-// not fit.
-use refusal::{Fault, Stored};
+// An answer as numbers, and why there may be none.
+ghost use Rattle.std.specs.Iterator.{IsFinite};
+ghost use Rattle.std.specs.Prelude.{◌≤◌};
 
-// An octet as a number.
-pub fn octet(value: u8) -> usize {
-    value as usize
+use refusal::Fault;
+use std::num::TryFromIntError;
+
+// The room for an answer: one number over the longest that is recorded, so that one that fills it differs.
+const ROOM: usize = 2049;
+
+// Why a call gives no answer of its own: the record is none, or the call refuses.
+#[derive(Clone, Copy, Debug, PartialEq, Eq)]
+pub enum Stop {
+    NoRecord,
+    Refused(Fault),
 }
 
-// A word as a number.
-pub fn word(value: u32) -> usize {
-    value as usize
-}
-
-// Puts a number at a place; answers the place behind it.
-pub fn put(answer: &mut [usize], at: usize, value: usize) -> usize {
-    if at < answer.len() {
-        answer[at] = value;
-        return at + 1;
+impl From<Fault> for Stop {
+    fn from(fault: Fault) -> Stop {
+        Stop::Refused(fault)
     }
-    at
 }
 
-// Puts bytes from a place on; answers the place behind them.
-pub fn put_bytes(answer: &mut [usize], at: usize, bytes: &[u8]) -> usize {
-    let mut next = at;
-    let mut index = 0;
-    while index < bytes.len() {
-        next = put(answer, next, octet(bytes[index]));
-        index += 1;
+impl From<TryFromIntError> for Stop {
+    // A number that the call's type has no room for.
+    fn from(_: TryFromIntError) -> Stop {
+        Stop::NoRecord
     }
-    next
 }
 
-// Puts words from a place on; answers the place behind them.
-pub fn put_words(answer: &mut [usize], at: usize, words: &[u32]) -> usize {
-    let mut next = at;
-    let mut index = 0;
-    while index < words.len() {
-        next = put(answer, next, word(words[index]));
-        index += 1;
+// The numbers of an answer, in fixed memory: one past the room is dropped.
+#[derive(Drop)]
+pub struct Answer {
+    room: [usize; ROOM],
+    count: usize,
+    ghost fits: { count ≤ 2049 },
+}
+
+impl From<Fault> for Answer {
+    // A refusal: its number and place.
+    fn from(fault: Fault) -> Answer {
+        let refusal = fault.refusal;
+        Answer::of(&[usize::from(refusal::number(refusal)), fault.place])
     }
-    next
 }
 
-// An answer that begins with these two numbers; answers the place behind them.
-pub fn begin(answer: &mut [usize], first: usize, second: usize) -> usize {
-    let next = put(answer, 0, first);
-    put(answer, next, second)
-}
+impl Answer {
+    // An answer of these numbers.
+    pub fn of(numbers: &[usize]) -> Answer {
+        let mut answer = Answer {
+            room: [0; ROOM],
+            count: 0,
+        };
+        answer.put_all(numbers.iter().copied());
+        answer
+    }
 
-// An answer that begins with a refusal: its number and place.
-pub fn refuse(answer: &mut [usize], fault: Fault) -> usize {
-    let refusal = fault.refusal;
-    begin(answer, octet(refusal::number(refusal)), fault.place)
-}
+    // The numbers that it has.
+    pub fn numbers(&self) -> &[usize] {
+        &self.room[..self.count]
+    }
 
-// A refusal and the words lent.
-pub fn refuse_words(answer: &mut [usize], fault: Fault, words: &[u32]) -> usize {
-    let next = refuse(answer, fault);
-    put_words(answer, next, words)
-}
-
-// No refusal, and four numbers; answers the place behind them.
-pub fn put_four(
-    answer: &mut [usize],
-    first: usize,
-    second: usize,
-    third: usize,
-    fourth: usize,
-) -> usize {
-    let behind_first = begin(answer, 0, first);
-    let behind_second = put(answer, behind_first, second);
-    let behind_third = put(answer, behind_second, third);
-    put(answer, behind_third, fourth)
-}
-
-// Puts what a call that stores answered, and the words lent after it.
-pub fn put_stored(answer: &mut [usize], stored: Stored, words: &[u32]) -> usize {
-    match stored {
-        Stored::Refused(fault) => refuse_words(answer, fault, words),
-        Stored::Done => {
-            let next = put(answer, 0, 0);
-            put_words(answer, next, words)
+    // Puts a number behind the others.
+    pub fn put(&mut self, number: usize) {
+        if self.count < ROOM {
+            self.room[self.count] = number;
+            self.count += 1;
         }
     }
+
+    // Puts numbers behind the others.
+    pub fn put_all<I: Iterator<Item = usize> + Drop>(&mut self, numbers: I)
+        requires can { I.can_next numbers }
+        requires finite { IsFinite (I.remaining numbers) }
+    {
+        for number in numbers {
+            self.put(number);
+        }
+    }
+
+    // Puts words behind the numbers.
+    pub fn put_words(&mut self, words: &[u32]) {
+        self.put_all(words.iter().map(|word| *word as usize));
+    }
+}
+
+// Stores a byte by a call, which is lent the words: the words, or the refusal and the words.
+pub fn store<F: FnOnce(&mut [u32], u8) -> Result<(), Fault>>(
+    words: &mut [u32],
+    value: usize,
+    call: F,
+) -> Result<Answer, Stop>
+    requires { F.IsAlwaysCallable call }
+{
+    let mut answer = match call(words, u8::try_from(value)?) {
+        Ok(()) => Answer::of(&[0]),
+        Err(fault) => Answer::from(fault),
+    };
+    answer.put_words(words);
+    Ok(answer)
 }

@@ -5,21 +5,63 @@ pub mod answer;
 mod fields;
 mod packets;
 
-// A number of a record; 0 where it has none.
-pub fn number(numbers: &[usize], index: usize) -> usize {
-    if index < numbers.len() {
-        numbers[index]
-    } else {
-        0
+use answer::{Answer, Stop};
+
+// A recorded call on a word field or a single packet.
+#[derive(Clone, Copy, Debug, PartialEq, Eq)]
+pub enum Kind {
+    Bit,
+    Crumb,
+    Nibble,
+    Septet,
+    Octet,
+    Word,
+    SetBit,
+    SetCrumb,
+    SetNibble,
+    SetSeptet,
+    SetOctet,
+    SetWord,
+    Sysex8Packet,
+    Sysex7Packet,
+    SetSysex8Group,
+    SetSysex7Group,
+}
+
+impl TryFrom<usize> for Kind {
+    type Error = Stop;
+
+    // The kind that a record writes as this number.
+    fn try_from(number: usize) -> Result<Kind, Stop> {
+        match number {
+            0x1 => Ok(Kind::Bit),
+            0x2 => Ok(Kind::Crumb),
+            0x3 => Ok(Kind::Nibble),
+            0x4 => Ok(Kind::Septet),
+            0x5 => Ok(Kind::Octet),
+            0x6 => Ok(Kind::Word),
+            0x9 => Ok(Kind::SetBit),
+            0xA => Ok(Kind::SetCrumb),
+            0xB => Ok(Kind::SetNibble),
+            0xC => Ok(Kind::SetSeptet),
+            0xD => Ok(Kind::SetOctet),
+            0xE => Ok(Kind::SetWord),
+            0x10 => Ok(Kind::Sysex8Packet),
+            0x11 => Ok(Kind::Sysex7Packet),
+            0x12 => Ok(Kind::SetSysex8Group),
+            0x13 => Ok(Kind::SetSysex7Group),
+            _ => Err(Stop::NoRecord),
+        }
     }
 }
 
-// Puts what ours answers to a record of fields or of a single packet; answers how many numbers, none to what is no record.
-pub fn reply(kind: usize, words: &mut [u32], numbers: &[usize], answer: &mut [usize]) -> usize {
-    let first = number(numbers, 0);
-    match kind {
-        0x10..=0x11 => packets::read(kind == 0x11, words, answer),
-        0x12..=0x13 => packets::set(kind == 0x13, words, first, answer),
-        _ => fields::reply(kind, words, first, number(numbers, 1), answer),
+// What ours answers to a record of a word field or of a single packet.
+pub fn reply(kind: Kind, words: &mut [u32], numbers: &[usize]) -> Result<Answer, Stop> {
+    match (kind, numbers) {
+        (Kind::Sysex8Packet, []) => packets::read_sysex8(words),
+        (Kind::Sysex7Packet, []) => packets::read_sysex7(words),
+        (Kind::SetSysex8Group, [group]) => answer::store(words, *group, packet::sysex8::set_group),
+        (Kind::SetSysex7Group, [group]) => answer::store(words, *group, packet::sysex7::set_group),
+        (_, _) => fields::reply(kind, words, numbers),
     }
 }

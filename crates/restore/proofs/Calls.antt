@@ -9,9 +9,9 @@ use Rattle.chain.specs.Meaning.{described_meaning}
 use Rattle.chain.specs.Chained.{Restorer, Describer}
 use Rattle.chain.proofs.describe.Kinds as describe-kinds
 use Rattle.chain.proofs.describe.Reads as describe
-use Rattle.restore.specs.Meaning.{restored_meaning}
 use Rattle.restore.proofs.restore.Kinds as restore-kinds
 use Rattle.restore.proofs.restore.Reads as restore
+use Rattle.refusal.specs.Meaning.{answer_of}
 
 -- what the calls are given, the library's and the exported ones alike
 abbrev pub restore_given : List ℕ → ℕ → List ℕ → (κs : Lfts 2) → Dens κs restore-kinds.ps → Type 0
@@ -24,7 +24,7 @@ describe_given store n κs a = (a.0.now ≡ store) × (a.1.0 ≡ n)
 abbrev pub Restores : Restorer
 Restores store n words answer left =
     Called 2 restore-kinds.ps restore-kinds.r restore.Post (restore_given store n words)
-    (λ κs said. restored_meaning said) (λ κs exit. exit.1.1.0.now ≡ left) answer
+    (λ κs said. answer_of said) (λ κs exit. exit.1.1.0.now ≡ left) answer
 
 -- `describe` is called on this store and this number; it answers what means this
 abbrev pub Describes : Describer

@@ -1,8 +1,8 @@
 -- What is promised of restoring and describing holds of any calls that promise the definitions. Assumes nothing.
+use Rattle.std.specs.Prelude.{Some}
 use mathlib.Core.Path.{◌≡◌, refl, sym, ap, ◌∙◌}
 use mathlib.Core.Logic.{◌↔◌, ◌⊎◌, inl, inr}
 use mathlib.Core.Bool.{Bool}
-use mathlib.Core.Option.{some}
 use mathlib.Core.List.{List, []}
 use Prim.Native.Nat.{ℕ, suc, ◌+◌, ◌-◌, ◌≤◌, ◌<◌}
 use native.Mathlib.Omega.{arith}
@@ -76,7 +76,7 @@ accepted store n words {len} {left} e = go (guard (ltb most_words (length words)
 
 -- ---- a ring of any length
 
-pub reencoded_ring : (ds : List Dump) (n : ℕ) → Reencoded ds n → (m steps : ℕ) → comes ds steps m ≡ some n → InRing ds m
+pub reencoded_ring : (ds : List Dump) (n : ℕ) → Reencoded ds n → (m steps : ℕ) → comes ds steps m ≡ Some n → InRing ds m
 reencoded_ring ds n r m steps c =
     record {
       earlier = steps;
@@ -90,7 +90,7 @@ reencoded_ring ds n r m steps c =
 -- ---- a delta and its base
 
 module _ (too_long : ℕ → Bool) (ds : List Dump) (n : ℕ) {number base : ℕ} {patches : List Patch}
-    (q : held ds n ≡ some (delta number base patches)) where
+    (q : held ds n ≡ Some (delta number base patches)) where
   -- one count less is enough for the base
   pub base_begun : restored too_long ds (length ds) base ≡ begun too_long ds base
   base_begun = go (walk ds (length ds) base) refl
@@ -119,12 +119,12 @@ module _ (too_long : ℕ → Bool) (ds : List Dump) where
       go (refused k l) q = refl
       go (gives p) q = roomed_is too_long p (given_room too_long ds left b q)
 
-  bare-same : (n : ℕ) {number base : ℕ} → held ds n ≡ some (delta number base []) → begun too_long ds n ≡ begun too_long ds base
+  bare-same : (n : ℕ) {number base : ℕ} → held ds n ≡ Some (delta number base []) → begun too_long ds n ≡ begun too_long ds base
   unfolding restored
   bare-same n {base = base} q =
       ap (restored_by too_long (λ b. restored too_long ds (length ds) b)) q ∙ rebuilt-bare (length ds) base ∙ base_begun too_long ds n q
 
-pub bare-restore : (store : List ℕ) (n : ℕ) {number base : ℕ} (words : List ℕ) → held (dumps_of store) n ≡ some (delta number base [])
+pub bare-restore : (store : List ℕ) (n : ℕ) {number base : ℕ} (words : List ℕ) → held (dumps_of store) n ≡ Some (delta number base [])
     → restore store n words ≡ restore store base words
 unfolding restore
 bare-restore store n words q = rw (bare-same (exceeds (length words)) (dumps_of store) n q)

@@ -1,40 +1,16 @@
--- Copying a part of a list over a part of another. Assumes nothing.
+-- Data laid out, record by record. Assumes nothing.
 use mathlib.Core.Path.{◌≡◌, refl, sym, ap, ◌∙◌}
 use mathlib.Core.Bool.{true, false}
 use mathlib.Core.List.{List, ◌++◌, append_assoc, append-nil}
 use Prim.Native.Nat.{ℕ, ◌+◌, ◌-◌, ◌≤◌, ◌<◌}
-use native.Mathlib.Numerals.{add-one}
 use native.Mathlib.Omega.{arith}
-use lib.ListN.{length, get_or, take, drop, set, length-set, length-drop, length-append}
-use lib.Seq.{paste, paste-zero, paste-suc, take-paste, length-paste, get_or-drop, length-take-le}
+use lib.ListN.{length, get_or, take, drop, length-drop, length-append}
+use lib.Seq.{paste, take-paste, length-paste, length-take-le}
 use Rattle.store.specs.Store.{is_data, data_in, patches_in}
 use Rattle.store.specs.Places.{record_at, next_at, records_from}
 use Rattle.restore.specs.Laying.{Copied}
 use Rattle.chain.specs.declared.edits.Reached.{Reached}
 use Rattle.store.proofs.Parts.{data_step, data_stop, patches_data}
-
-pub record Pasted (before : List ℕ) (done : ℕ) (from : List ℕ) (start : ℕ) (now : List ℕ) (index : ℕ) : Type 0 where
-  pub long : length now ≡ length before
-  pub is : now ≡ paste before done (drop start from) index
-
-pub pasted_none : (before : List ℕ) (done : ℕ) (from : List ℕ) (start : ℕ) → Pasted before done from start before 0
-pasted_none before done from start = record { long = refl; is = paste-zero before done (drop start from) }
-
-pub pasted_more : {before : List ℕ} {done : ℕ} {from : List ℕ} {start : ℕ} {now : List ℕ} {index : ℕ} → Pasted before done from start now index
-    → done + index < length before → start + index < length from → Pasted before done from start (set now (done + index) (get_or from (start + index) 0)) (index + 1)
-pasted_more {before} {done} {from} {start} {now} {index} p h k =
-    record {
-      long = length-set now (done + index) _ ∙ p.long;
-      is =
-          ap (λ (l : List ℕ). set l (done + index) (get_or from (start + index) 0)) p.is
-          ∙ ap (λ (x : ℕ). set (paste before done (drop start from) index) (done + index) x) (sym (get_or-drop start from index 0))
-          ∙ paste-suc before done (drop start from) index 0 h (rw length-drop (omega arith))
-          ∙ ap (λ (n : ℕ). paste before done (drop start from) n) (sym (add-one index));
-    }
-
-pub pasted_all : {before : List ℕ} {done : ℕ} {from : List ℕ} {start : ℕ} {now : List ℕ} {index count : ℕ} → Pasted before done from start now index
-    → index ≡ count → now ≡ paste before done (drop start from) count
-pasted_all {before} {done} {from} {start} p e = p.is ∙ ap (λ (n : ℕ). paste before done (drop start from) n) e
 
 -- ---- data laid out
 

@@ -1,11 +1,12 @@
 -- A base with the edits of a delta put in, edit by edit. Assumes nothing.
+use Rattle.std.specs.Prelude.{Option, Some, None}
 use mathlib.Core.Path.{◌≡◌, refl, sym, ap, ◌∙◌}
 use mathlib.Core.Bool.{true, false, ◌||◌}
-use mathlib.Core.List.{List, [], ◌++◌, append_assoc, append-nil}
+use mathlib.Core.List.{List, ◌++◌, append_assoc}
 use Prim.Native.Nat.{ℕ, ◌+◌, ◌-◌, ◌≤◌, ◌<◌}
 use native.Mathlib.Omega.{arith}
 use lib.Dec.{ltb}
-use lib.ListN.{length, get_or, take, drop, length-append, length-drop, drop_of_length-le}
+use lib.ListN.{length, get_or, take, drop, length-append, length-drop}
 use lib.Seq.{paste, take-paste, length-paste, length-take-le, take-add, take-take, drop_at, slice, length-slice}
 use borrow.Author.Tests.{ltb-false}
 use Rattle.ump.specs.Word.{pair_at}
@@ -18,18 +19,14 @@ use Rattle.chain.specs.declared.edits.Reached.{Reached}
 use Rattle.chain.proofs.Outside.{or_false}
 use Rattle.ump.proofs.Replay.{replay, replaced_is}
 use Rattle.restore.specs.Laying.{Copied, Ran, Filling}
-use Rattle.restore.specs.declared.restoring.Run.{Run}
-use Rattle.restore.specs.declared.restoring.Run.TheVariants as run
-use Rattle.restore.specs.declared.restoring.Filled.{Filled}
-use Rattle.restore.specs.declared.restoring.Filled.TheVariants as filled
 
 -- ---- by cases
 
 module _ {store : List ℕ} {at : ℕ} {bytes before after : List ℕ} where
-  pub over_ran : length before < length bytes → Ran store at bytes before run.Over after
+  pub over_ran : length before < length bytes → Ran store at bytes before None after
   over_ran h = record { done = λ reached q. let z : ◌≡◌ {A = ℕ} 0 1 = cc in absurd (omega arith); over = λ q. h }
 
-  pub done_ran : {reached : Reached} → Copied store at bytes reached after → Ran store at bytes before (run.Done reached) after
+  pub done_ran : {reached : Reached} → Copied store at bytes reached after → Ran store at bytes before (Some reached) after
   done_ran {reached} c =
       record {
         done = λ reached' q. let same : reached ≡ reached' = cc in rw same at c;
@@ -37,10 +34,10 @@ module _ {store : List ℕ} {at : ℕ} {bytes before after : List ℕ} where
       }
 
 module _ {bytes before after : List ℕ} where
-  pub over_filling : length before < length bytes → Filling bytes before filled.Over after
+  pub over_filling : length before < length bytes → Filling bytes before None after
   over_filling h = record { sized = λ size q. let z : ◌≡◌ {A = ℕ} 0 1 = cc in absurd (omega arith); over = λ q. h }
 
-  pub done_filling : {size : ℕ} → size ≤ length after → take size after ≡ bytes → Filling bytes before (filled.Size size) after
+  pub done_filling : {size : ℕ} → size ≤ length after → take size after ≡ bytes → Filling bytes before (Some size) after
   done_filling {size} h e =
       record {
         sized = λ size' q. let same : size ≡ size' = cc in (omega arith, ap (λ (n : ℕ). take n after) (sym same) ∙ e);
@@ -60,16 +57,8 @@ module _ (base : List ℕ) (end from : ℕ) (h : from ≤ length base) (to : Lis
   part_long : length (take done to ++ slice end from base) ≡ done + (from - end)
   part_long = length-append (take done to) (slice end from base) ∙ ap (λ (n : ℕ). n + length (slice end from base)) (length-take-le done to k) ∙ ap (λ (n : ℕ). done + n) (length-slice end from base h)
 
-  pub part_none : from ≤ end → Filling (take done to ++ slice end from base) to (filled.Size done) to
-  part_none e =
-      let empty : slice end from base ≡ [] = drop_of_length-le (take from base) {i = end} (omega (arith, length-take-le from base h)) in
-      done_filling k (sym (append-nil (take done to)) ∙ ap (λ (l : List ℕ). take done to ++ l) (sym empty))
-
-  pub part-over : length to - done < from - end → Filling (take done to ++ slice end from base) to filled.Over to
-  part-over e = over_filling (omega (arith, part_long))
-
   pub part_done : {after : List ℕ} → end < from → from - end ≤ length to - done → after ≡ paste to done (drop end base) (from - end)
-      → Filling (take done to ++ slice end from base) to (filled.Size (done + (from - end))) after
+      → Filling (take done to ++ slice end from base) to (Some (done + (from - end))) after
   part_done {after} e r p =
       let c : from - end ≤ length (drop end base) = rw length-drop (omega arith) in
       let long = ap length p ∙ length-paste to done (drop end base) (from - end) (omega arith) c in
@@ -80,46 +69,19 @@ module _ (base : List ℕ) (end from : ℕ) (h : from ≤ length base) (to : Lis
 -- ---- the same bytes, the same room
 
 module _ {bytes bytes' before before' after : List ℕ} (e : bytes ≡ bytes') (l : length before ≡ length before') where
-  pub filling_as : {r : Filled} → Filling bytes before r after → Filling bytes' before' r after
+  pub filling_as : {r : (Option ℕ)} → Filling bytes before r after → Filling bytes' before' r after
   filling_as f =
       record {
         sized = λ size q. ((f.sized size q).0, (f.sized size q).1 ∙ e);
         over = λ q. omega (arith, ap length e, l, f.over q);
       }
 
-  pub ran_as : {store : List ℕ} {at : ℕ} {r : Run} → Ran store at bytes before r after → Ran store at bytes' before' r after
+  pub ran_as : {store : List ℕ} {at : ℕ} {r : (Option Reached)} → Ran store at bytes before r after → Ran store at bytes' before' r after
   ran_as f =
       record {
         done = λ reached q. let c = f.done reached q in record { fits = c.fits; laid = c.laid ∙ e; past = c.past };
         over = λ q. omega (arith, ap length e, l, f.over q);
       }
-
--- more bytes have no room either
-pub longer : (xs ys : List ℕ) {n : ℕ} → n < length xs → n < length (xs ++ ys)
-longer xs ys h = rw length-append (omega arith)
-
--- ---- one edit
-
--- the bytes laid out with an edit: those before, the base up to the edit, the edit's data
-abbrev pub with_edit : List ℕ → ℕ → List ℕ → ℕ → List ℕ → ℕ → List ℕ
-with_edit store at base end to done = (take done to ++ slice end (pair_at store (at + 1)) base) ++ data_in (records_from store (next_at store at))
-
-module _ (store : List ℕ) (at : ℕ) (base : List ℕ) (end : ℕ) (to : List ℕ) (done : ℕ) {n : ℕ} (q : n ≡ pair_at store (at + 1)) {r : Filled} {mid : List ℕ}
-    (f : Filling (take done to ++ slice end n base) to r mid) where
-  same : take done to ++ slice end n base ≡ take done to ++ slice end (pair_at store (at + 1)) base
-  same = ap (λ (k : ℕ). take done to ++ slice end k base) q
-
-  pub edit_over : r ≡ filled.Over → Ran store (next_at store at) (with_edit store at base end to done) to run.Over mid
-  edit_over e =
-      over_ran (longer (take done to ++ slice end (pair_at store (at + 1)) base) (data_in (records_from store (next_at store at))) (omega (arith, f.over e, ap length same)))
-
-  pub edit_done : {size next : ℕ} {r' : Run} {after : List ℕ} → r ≡ filled.Size size → length mid ≡ length to → next ≡ next_at store at
-      → Ran store next (take size mid ++ data_in (records_from store next)) mid r' after → Ran store (next_at store at) (with_edit store at base end to done) to r' after
-  edit_done {size} {next} {r'} {after} e l p t =
-      ran_as
-      (ap (λ (x : List ℕ). x ++ data_in (records_from store (next_at store at))) ((f.sized size e).1 ∙ same))
-      l
-      (rw p at t)
 
 -- ---- one edit after the other
 

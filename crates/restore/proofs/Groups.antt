@@ -1,4 +1,5 @@
 -- A restored dump has a group of at most 15, and room; what restoring answers. Assumes nothing.
+use Rattle.std.specs.Prelude.{Result, Ok, Err}
 use mathlib.Core.Path.{◌≡◌, sym, ap, ◌∙◌}
 use mathlib.Core.Bool.{true}
 use mathlib.Core.List.{List}
@@ -17,8 +18,6 @@ use Rattle.chain.specs.Restore.{Payload, exceeds, restored, laid_out, answered, 
 use Rattle.chain.proofs.Making.{given_room, given_group}
 use Rattle.restore.specs.Laying.{Lays, base_in}
 use Rattle.restore.specs.declared.restoring.Held.{Held}
-use Rattle.restore.specs.declared.restoring.Laid.{Laid}
-use Rattle.restore.specs.declared.restoring.Laid.TheVariants as laid
 use Rattle.restore.proofs.Rooms.{base_refused, base_given}
 
 -- ---- what a restored dump has
@@ -37,17 +36,17 @@ restored_good lent ds a left n p e =
 
 -- ---- the answer
 
-module _ (lent left : ℕ) (store : List ℕ) (n : ℕ) {r : Laid} {scratch : List ℕ}
+module _ (lent left : ℕ) (store : List ℕ) (n : ℕ) {r : (Result Held Refusal)} {scratch : List ℕ}
     (l : Lays (restored (exceeds lent) (dumps_of store) left n) r scratch) where
-  pub answer_good : well_formed at_start (records_of store) ≡ true → {base : Held} → r ≡ laid.Payload base → Good lent (base_in base scratch)
+  pub answer_good : well_formed at_start (records_of store) ≡ true → {base : Held} → r ≡ Ok base → Good lent (base_in base scratch)
   answer_good s {base} e =
       restored_good lent (dumps_of store) (all_formed at_start (records_of store) s) left n (base_in base scratch) (base_given l e)
 
-  pub answer_refused : (words : List ℕ) {refusal : Refusal} → r ≡ laid.Refused refusal
+  pub answer_refused : (words : List ℕ) {refusal : Refusal} → r ≡ Err refusal
       → (refused (number_of refusal) 0, words) ≡ answered words (restored (exceeds lent) (dumps_of store) left n)
   answer_refused words e = ap (answered words) (sym (base_refused l e))
 
-  pub answer_given : (words : List ℕ) {base : Held} {count : ℕ} {after : List ℕ} → r ≡ laid.Payload base
+  pub answer_given : (words : List ℕ) {base : Held} {count : ℕ} {after : List ℕ} → r ≡ Ok base
       → count ≡ words_for sysex8 (length (take base.size scratch))
       → after ≡ laid_out (length words) (base_in base scratch)
       → (gives count, after) ≡ answered words (restored (exceeds lent) (dumps_of store) left n)

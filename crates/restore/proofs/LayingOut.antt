@@ -1,4 +1,6 @@
 -- An empty message, and its payload set. Assumes nothing.
+use Rattle.std.specs.Prelude.{Result, Ok, Err}
+use Rattle.std.specs.Result.{IsOk}
 use mathlib.Core.Path.{◌≡◌, refl, sym, ap, ◌∙◌}
 use mathlib.Core.List.{List, [], ◌∷◌, ◌++◌, append-nil}
 use Prim.Native.Nat.{ℕ, zero, suc, ◌+◌, ◌-◌, ◌*◌, ◌%◌, ◌≤◌, ◌<◌, max}
@@ -7,13 +9,16 @@ use native.Mathlib.Omega.{arith}
 use lib.ListN.{length, drop, set, replicate, length-append, length-replicate}
 use lib.Seq.{drop-append-add}
 use borrow.Author.Tests.{le-ltb}
-use Rattle.refusal.specs.Answer.{Answer}
+use Rattle.refusal.specs.Answer.{Answer, gives}
+use Rattle.refusal.specs.declared.Fault.{Fault}
+use Rattle.splice.specs.declared.sysex8.Change.{Change}
+use Rattle.splice.specs.Meaning.{spliced_meaning}
 use Rattle.ump.specs.Word.{word, words_of}
 use Rattle.ump.specs.Packet.{sysex8, group_at, id_at, joined}
 use Rattle.ump.specs.Packing.{status_for, frame, packs_at, packs, packets_for, words_for, pack}
 use Rattle.ump.specs.Limits.{most_words}
 use Rattle.ump.specs.Check.{Valid, payload_of}
-use Rattle.ump.specs.Splice.{stored, rewritten, Spliced, splice, set_payload}
+use Rattle.ump.specs.Splice.{stored, rewritten, growth_by, Spliced, splice, set_payload}
 use Rattle.ump.proofs.Sizes.{packets_pos}
 use Rattle.ump.proofs.Packing.{length_pack}
 use Rattle.ump.proofs.Checks.{valid_passes}
@@ -107,13 +112,44 @@ module _ (group id : ℕ) (g : group < 16) (i : id < 256) (n : ℕ) (h : n ≤ m
       )
       stored_is
 
+  pub set_given : (set_payload sysex8 words 4 bytes).0 ≡ gives (record { length = words_for sysex8 (length bytes); growth = growth_by (length bytes) 0 })
+  unfolding splice
+  set_given =
+      rw (
+        carries,
+        valid_passes sysex8 words 4 valid,
+        append-nil bytes,
+        le-ltb (length words) (words_for sysex8 (length bytes)) (omega (arith, long, room)),
+      )
+      refl
+
+-- the words before the payload is set
+begun_is : (group id n : ℕ) → group < 16 → (bytes : List ℕ) → words_for sysex8 (length bytes) ≤ n
+    → {first : ℕ} {cleared : List ℕ} → cleared ≡ replicate n 0 → first ≡ word (5 % 16 * 16 + group % 16) (0 % 16 * 16 + 1 % 16) id 0
+    → set cleared 0 first ≡ pack sysex8 group (id ∷ []) [] ++ replicate (n - 4) 0
+begun_is group id n g bytes room {first} c f =
+    ap (λ (l : List ℕ). set l 0 first) c ∙ ap (λ (x : ℕ). set (replicate n 0) 0 x) (f ∙ ap (λ (x : ℕ). word (80 + x) 1 id 0) (mod-eq_of_lt g))
+    ∙ empty_words group id n (omega (arith, words_four (length bytes), room))
+
 -- what stands in the words after the three steps
 pub put_is : (group id : ℕ) → group < 16 → id < 256 → (before bytes : List ℕ) → length before ≤ most_words → words_for sysex8 (length bytes) ≤ length before
     → {first : ℕ} {cleared after : List ℕ} {answer : Answer Spliced} → cleared ≡ replicate (length before) 0 → first ≡ word (5 % 16 * 16 + group % 16) (0 % 16 * 16 + 1 % 16) id 0
     → (answer, after) ≡ set_payload sysex8 (set cleared 0 first) 4 bytes → after ≡ laid_out (length before) (record { group = group; id = id; bytes = bytes })
-put_is group id g i before bytes h room {first} {cleared} {after} {answer} c f e =
-    let w : set cleared 0 first ≡ pack sysex8 group (id ∷ []) [] ++ replicate (length before - 4) 0 =
-    ap (λ (l : List ℕ). set l 0 first) c ∙ ap (λ (x : ℕ). set (replicate (length before) 0) 0 x) (f ∙ ap (λ (x : ℕ). word (80 + x) 1 id 0) (mod-eq_of_lt g)) ∙ empty_words group id (length before) (omega (arith, words_four (length bytes), room)) in
+put_is group id g i before bytes h room c f e =
     ap (λ (x : Answer Spliced × List ℕ). x.1) e
-    ∙ ap (λ (l : List ℕ). (set_payload sysex8 l 4 bytes).1) w
+    ∙ ap (λ (l : List ℕ). (set_payload sysex8 l 4 bytes).1) (begun_is group id (length before) g bytes room c f)
     ∙ set_is group id g i (length before) h bytes room
+
+-- and the payload is never refused
+is_given : (r : Result Change Fault) {change : Spliced} → spliced_meaning r ≡ gives change → IsOk r
+is_given (Ok change) e = refl
+is_given (Err fault) e = let z : ◌≡◌ {A = ℕ} 0 1 = cc in absurd (omega arith)
+
+pub put_given : (group id : ℕ) → group < 16 → id < 256 → (before bytes : List ℕ) → length before ≤ most_words → words_for sysex8 (length bytes) ≤ length before
+    → {first : ℕ} {cleared after : List ℕ} (r : Result Change Fault) → cleared ≡ replicate (length before) 0 → first ≡ word (5 % 16 * 16 + group % 16) (0 % 16 * 16 + 1 % 16) id 0
+    → (spliced_meaning r, after) ≡ set_payload sysex8 (set cleared 0 first) 4 bytes → IsOk r
+put_given group id g i before bytes h room r c f e =
+    is_given r
+    (ap (λ (x : Answer Spliced × List ℕ). x.0) e
+    ∙ ap (λ (l : List ℕ). (set_payload sysex8 l 4 bytes).0) (begun_is group id (length before) g bytes room c f)
+    ∙ set_given group id g i (length before) h bytes room)

@@ -10,10 +10,10 @@ use Rattle.chain.proofs.Named.{restore_named, describe_named}
 use Rattle.chain.proofs.Unique.{described_back, described_meant}
 use Rattle.edit.proofs.Worker.{family}
 use Rattle.edit.proofs.Demand as edit
-use Rattle.restore.proofs.Unique.{restored_back, restored_meant}
 use Rattle.restore.proofs.Calls.{Restores, Describes}
 use Rattle.restore.proofs.Chains as laws
 use Rattle.restore.proofs.Splices as splices
+use Rattle.refusal.proofs.Laws.{answer_back, answer_meant}
 
 pub promised : PromisedChain Restores Describes
 promised =
@@ -21,11 +21,11 @@ promised =
       restores = λ r. let g = r.given in rw (g.0, g.1, g.2, r.left, r.answer_is) at r.promise;
       describes = λ d. let g = d.given in sym d.answer_is ∙ (rw (g.0, g.1) at d.promise);
       can_restore = λ {store = store} {n} {words} {answer} {left} e.
-          let meant = restored_meant answer (rw (ap (λ (o : Answer ℕ × List ℕ). o.0) e) at (restore_named store n words)) in
+          let meant = answer_meant answer (rw (ap (λ (o : Answer ℕ × List ℕ). o.0) e) at (restore_named store n words)) in
           record {
             lifetimes = ([], ([], tt));
             arguments = (lent store, (n, (lent_mut words, tt)));
-            said = restored_back answer;
+            said = answer_back answer;
             exit = (lent store, (n, (lent_mut left, tt)));
             promise = ap (λ (a : Answer ℕ). (a, left)) meant ∙ sym e;
             given = (refl, refl, refl);

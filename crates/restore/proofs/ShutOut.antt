@@ -1,4 +1,5 @@
 -- Wrong outcomes of `restore` that its promise shuts out, each on a concrete store. Assumes nothing.
+use Rattle.std.specs.Prelude.{Result, Ok, Err}
 use mathlib.Core.Path.{◌≡◌, refl, ap, ◌∙◌}
 use mathlib.Core.Bool.{Bool, false, not}
 use lib.Dec.{T, eqb}
@@ -20,14 +21,12 @@ use Rattle.store.specs.Store.{is_data, body_size, records_after, follows_by, all
 use Rattle.store.specs.Samples.{one, two, bare}
 use Rattle.chain.specs.Restore as paper
 use Rattle.chain.specs.Samples.{sevens, shorter, growing}
-use Rattle.restore.specs.Meaning.{restored_meaning}
-use Rattle.restore.specs.declared.Restored.{Restored}
-use Rattle.restore.specs.declared.Restored.TheVariants as restored
 use Rattle.restore.proofs.restore.Kinds as restore-kinds
 use Rattle.restore.proofs.restore.Reads as restore
+use Rattle.refusal.specs.Meaning.{answer_of}
 
 -- `restore` answers this of this store, number and so many words lent
-abbrev Wrong : List ℕ → ℕ → ℕ → Restored → Type 0
+abbrev Wrong : List ℕ → ℕ → ℕ → (Result ℕ Fault) → Type 0
 Wrong store number n answer =
     ShutOut 2 restore-kinds.ps restore-kinds.r restore.Post (λ κs a x s. (a.0.now ≡ store) × (a.1.0 ≡ number) × (a.1.1.0.now ≡ sevens n) × (x ≡ answer))
 
@@ -37,18 +36,18 @@ Left store number n index word =
     ShutOut 2 restore-kinds.ps restore-kinds.r restore.Post
     (λ κs a x s. (a.0.now ≡ store) × (a.1.0 ≡ number) × (a.1.1.0.now ≡ sevens n) × (get_or s.1.1.0.now index 0 ≡ word))
 
-abbrev refuse : Refusal → Restored
-refuse name = restored.Refused (record { refusal = name; place = 0 })
+abbrev refuse : Refusal → (Result ℕ Fault)
+refuse name = Err (record { refusal = name; place = 0 })
 
 -- A restore that refuses every chain (chains), or every store with a ring in it (beside); that never looks for a ring (ring); that judges Room in the
 -- middle of a delta's edits (middle), or on the result alone (base); that leaves old words past the message (past), writes in spite of a refusal
 -- (kept), or gives the base for its delta (base_words).
 record Outcomes : Type 0 where
-  chains : (fault : Fault) → Wrong (two ++ one) 2 4 (restored.Refused fault)
+  chains : (fault : Fault) → Wrong (two ++ one) 2 4 (Err fault)
   beside : Wrong (one ++ bare 3 3) 1 4 (refuse Ring)
-  ring : (words : ℕ) → Wrong (bare 3 3) 3 4 (restored.Words words)
+  ring : (words : ℕ) → Wrong (bare 3 3) 3 4 (Ok words)
   middle : Wrong growing 2 4 (refuse Room)
-  base : Wrong shorter 2 4 (restored.Words 4)
+  base : Wrong shorter 2 4 (Ok 4)
   past : Left one 1 6 5 7
   kept : Left (bare 3 3) 3 4 0 0
   base_words : Left (two ++ one) 2 4 0 0x52030741
@@ -62,9 +61,9 @@ ring_is : (paper.restore (bare 3 3) 3 (sevens 4)).0 ≡ refused 25 0
 unfolding is_data body_size records_after follows_by allowed_by well_formed data_in patches_in dump_of dumps_in held twice sound paper.roomed paper.outside paper.rebuilt paper.restored paper.laid_out paper.restore pack packs packs_at packets_for frame status_for joined words_of replaced
 ring_is = refl
 
-abbrev Others : List ℕ → ℕ → ℕ → Restored → Type 0
+abbrev Others : List ℕ → ℕ → ℕ → (Result ℕ Fault) → Type 0
 Others store number n answer =
-    eqb (told (λ (n : ℕ). n) (restored_meaning answer)) (told (λ (n : ℕ). n) (paper.restore store number (sevens n)).0) ≡ false
+    eqb (told (λ (n : ℕ). n) (answer_of answer)) (told (λ (n : ℕ). n) (paper.restore store number (sevens n)).0) ≡ false
 
 abbrev Puts : List ℕ → ℕ → ℕ → ℕ → ℕ → Type 0
 Puts store number n index word = eqb word (get_or (paper.restore store number (sevens n)).1 index 0) ≡ false
@@ -77,7 +76,7 @@ middle_other : Others growing 2 4 (refuse Room)
 unfolding is_data body_size records_after follows_by allowed_by well_formed data_in patches_in dump_of dumps_in held twice sound paper.roomed paper.outside paper.rebuilt paper.restored paper.laid_out paper.restore pack packs packs_at packets_for frame status_for joined words_of replaced
 middle_other = refl
 
-base_other : Others shorter 2 4 (restored.Words 4)
+base_other : Others shorter 2 4 (Ok 4)
 unfolding is_data body_size records_after follows_by allowed_by well_formed data_in patches_in dump_of dumps_in held twice sound paper.roomed paper.outside paper.rebuilt paper.restored paper.laid_out paper.restore pack packs packs_at packets_for frame status_for joined words_of replaced
 base_other = refl
 

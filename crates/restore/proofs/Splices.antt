@@ -1,6 +1,6 @@
 -- A delta's edits spliced into its restored base, in any order, come to what restoring the delta gives. Assumes nothing.
+use Rattle.std.specs.Prelude.{Some}
 use mathlib.Core.Path.{◌≡◌, refl, sym, ap, ◌∙◌}
-use mathlib.Core.Option.{some}
 use mathlib.Core.List.{List, [], ◌∷◌}
 use Prim.Native.Nat.{ℕ, suc, ◌+◌, ◌-◌, ◌≤◌, ◌<◌}
 use native.Mathlib.Omega.{arith}
@@ -110,7 +110,7 @@ module _ {store : List ℕ} {n : ℕ} {words : List ℕ} {len : ℕ} {left : Lis
 
 -- ---- a delta on its base, both restored
 
-module _ {store : List ℕ} {n number base : ℕ} {patches : List Patch} (is_held_lem : held (dumps_of store) n ≡ some (delta number base patches))
+module _ {store : List ℕ} {n number base : ℕ} {patches : List Patch} (is_held_lem : held (dumps_of store) n ≡ Some (delta number base patches))
     {words left : List ℕ} {len : ℕ} (below : Accepted store base words len left)
     {words-other left_other : List ℕ} {size : ℕ} (above : Accepted store n words-other size left_other) (b : Below 256 store) where
   abbrev old : Payload

@@ -1,7 +1,7 @@
 -- Each octet of a restored dump comes from where its origin says: each byte of its payload from a dump on the walk. Assumes nothing.
+use Rattle.std.specs.Prelude.{Some}
 use mathlib.Core.Path.{◌≡◌, refl, sym, ap, ◌∙◌}
 use mathlib.Core.Bool.{Bool, true, false, cond}
-use mathlib.Core.Option.{some}
 use mathlib.Core.List.{List, [], ◌∷◌, ◌++◌, map}
 use Prim.Native.Nat.{ℕ, zero, suc, ◌+◌, ◌-◌, ◌*◌, ◌/◌, ◌%◌, ◌≤◌, ◌<◌}
 use native.Mathlib.Nat.{zero-add}
@@ -38,7 +38,7 @@ use Rattle.chain.proofs.Making.{Fitting, Made, of_whole, of_delta, made, apart}
 -- ---- bytes
 
 -- a base and the edits on it
-module _ (ds : List Dump) (n base : ℕ) (patches : List Patch) (is_held : held ds n ≡ some (delta n base patches))
+module _ (ds : List Dump) (n base : ℕ) (patches : List Patch) (is_held : held ds n ≡ Some (delta n base patches))
     (old : List ℕ) (far : Apart patches (length old)) (source : ℕ → Provenance) where
   run_byte : (i : ℕ) (run : Run) → run_at (length old) (edits_for patches) i ≡ run → ((j : ℕ) → get_or old j 0 ≡ proven_byte ds (source j))
       → get_or (replaced old patches) i 0 ≡ proven_byte ds (source_by source n run)
@@ -109,7 +109,7 @@ module _ (n : ℕ) (patches : List Patch) (far : Apart patches n) where
       go (over l e) y d = absurd (omega (arith, rw e at d))
 
 -- what a base's walk passes is passed from its delta too
-walk_on : (ds : List Dump) (n base : ℕ) (patches : List Patch) → held ds n ≡ some (delta n base patches) → (s : Provenance)
+walk_on : (ds : List Dump) (n base : ℕ) (patches : List Patch) → held ds n ≡ Some (delta n base patches) → (s : Provenance)
     → OnWalk ds base s → OnWalk ds n s
 unfolding comes
 walk_on ds n base patches t (whole_byte number i) w =
@@ -134,7 +134,7 @@ walk_on ds n base patches t (delta_byte number k j) w =
     }
 walk_on ds n base patches t nowhere w = w
 
-module _ (ds : List Dump) (n base : ℕ) (patches : List Patch) (is_held : held ds n ≡ some (delta n base patches))
+module _ (ds : List Dump) (n base : ℕ) (patches : List Patch) (is_held : held ds n ≡ Some (delta n base patches))
     (old : List ℕ) (far : Apart patches (length old)) (source : ℕ → Provenance) where
   run_walk : (i : ℕ) (run : Run) → run_at (length old) (edits_for patches) i ≡ run → i < length (replaced old patches)
       → ((j : ℕ) → j < length old → OnWalk ds base (source j)) → OnWalk ds n (source_by source n run)

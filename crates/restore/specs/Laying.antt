@@ -1,6 +1,7 @@
 -- What laying out a dump means. For the code's own promises; no public promise needs it.
 -- Assumes nothing.
-use Rattle.std.specs.Prelude.{◌≡◌, List, ℕ, ◌*◌, ◌≤◌, ◌<◌, length, take}
+use Rattle.refusal.specs.declared.Refusal.{Refusal}
+use Rattle.std.specs.Prelude.{Result, Ok, Err, Option, Some, None, ◌≡◌, List, ℕ, ◌*◌, ◌≤◌, ◌<◌, length, take}
 use Rattle.refusal.specs.Answer.{Answer, gives, refused, pass}
 use Rattle.refusal.specs.Number.{number_of}
 use Rattle.ump.specs.Limits.{most_words}
@@ -10,12 +11,6 @@ use Rattle.chain.specs.Restore.{Payload}
 use Rattle.chain.specs.Laying.{Past}
 use Rattle.chain.specs.declared.edits.Reached.{Reached}
 use Rattle.restore.specs.declared.restoring.Held.{Held}
-use Rattle.restore.specs.declared.restoring.Laid.{Laid}
-use Rattle.restore.specs.declared.restoring.Laid.TheVariants as laid
-use Rattle.restore.specs.declared.restoring.Run.{Run}
-use Rattle.restore.specs.declared.restoring.Run.TheVariants as run
-use Rattle.restore.specs.declared.restoring.Filled.{Filled}
-use Rattle.restore.specs.declared.restoring.Filled.TheVariants as filled
 
 -- these bytes are laid out, and the data from a place on is passed
 pub record Copied (store : List ℕ) (at : ℕ) (bytes : List ℕ) (reached : Reached) (after : List ℕ) : Type 0 where
@@ -24,25 +19,25 @@ pub record Copied (store : List ℕ) (at : ℕ) (bytes : List ℕ) (reached : Re
   pub past : Past store at reached.at
 
 -- or they have no room in the scratch
-pub record Ran (store : List ℕ) (at : ℕ) (bytes before : List ℕ) (r : Run) (after : List ℕ) : Type 0 where
-  pub done : (reached : Reached) → r ≡ run.Done reached → Copied store at bytes reached after
-  pub over : r ≡ run.Over → length before < length bytes
+pub record Ran (store : List ℕ) (at : ℕ) (bytes before : List ℕ) (r : (Option Reached)) (after : List ℕ) : Type 0 where
+  pub done : (reached : Reached) → r ≡ Some reached → Copied store at bytes reached after
+  pub over : r ≡ None → length before < length bytes
 
 -- these bytes are laid out, or have no room in the scratch
-pub record Filling (bytes before : List ℕ) (r : Filled) (after : List ℕ) : Type 0 where
-  pub sized : (size : ℕ) → r ≡ filled.Size size → (size ≤ length after) × (take size after ≡ bytes)
-  pub over : r ≡ filled.Over → length before < length bytes
+pub record Filling (bytes before : List ℕ) (r : (Option ℕ)) (after : List ℕ) : Type 0 where
+  pub sized : (size : ℕ) → r ≡ Some size → (size ≤ length after) × (take size after ≡ bytes)
+  pub over : r ≡ None → length before < length bytes
 
-abbrev pub laid_meaning : Laid → List ℕ → Answer Payload
-laid_meaning (laid.Payload held) scratch = gives (record { group = held.group; id = held.id; bytes = take held.size scratch })
-laid_meaning (laid.Refused refusal) scratch = refused (number_of refusal) 0
+abbrev pub laid_meaning : (Result Held Refusal) → List ℕ → Answer Payload
+laid_meaning (Ok held) scratch = gives (record { group = held.group; id = held.id; bytes = take held.size scratch })
+laid_meaning (Err refusal) scratch = refused (number_of refusal) 0
 
-abbrev pub FitsIn : Laid → ℕ → Type 0
-FitsIn (laid.Payload held) n = held.size ≤ n
-FitsIn (laid.Refused refusal) n = Unit {0}
+abbrev pub FitsIn : (Result Held Refusal) → ℕ → Type 0
+FitsIn (Ok held) n = held.size ≤ n
+FitsIn (Err refusal) n = Unit {0}
 
 -- the answer, its bytes in the scratch
-pub record Lays (answer : Answer Payload) (r : Laid) (scratch : List ℕ) : Type 0 where
+pub record Lays (answer : Answer Payload) (r : (Result Held Refusal)) (scratch : List ℕ) : Type 0 where
   pub means : laid_meaning r scratch ≡ answer
   pub inside : FitsIn r (length scratch)
 

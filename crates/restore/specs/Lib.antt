@@ -1,3 +1,2 @@
 -- What the answer of restoring means, and how a dump is laid out.
-pub mod Meaning
 pub mod Laying

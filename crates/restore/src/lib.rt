@@ -6,19 +6,10 @@ mod restoring;
 
 ghost use Rattle.std.specs.Prelude.{◌≡◌, ◌≤◌, length};
 ghost use Rattle.chain.specs.Restore.{restore as restore_of};
-ghost use Rattle.restore.specs.Meaning.{restored_meaning};
 ghost use Rattle.restore.specs.Laying.{Readied, Roomy};
+ghost use Rattle.refusal.specs.Meaning.{answer_of};
 
 use refusal::{Fault, Refusal};
-use restoring::Laid;
-use store::Checked;
-
-// The answer of restoring: the words of the message.
-#[derive(Drop)]
-pub enum Restored {
-    Words(usize),
-    Refused(Fault),
-}
 
 // Restores the dump of this number from a good store, whose dumps stand at these places: in two scratch payloads, and then in the
 // words lent.
@@ -29,32 +20,24 @@ fn restore_in(
     words: &mut [u32],
     first: &mut [u8],
     second: &mut [u8],
-) -> Restored
+) -> Result<usize, Fault>
     requires { Readied store.now places.now words.old × (Roomy words.old first.old × Roomy words.old second.old) }
-    ensures { (restored_meaning result, words.new) ≡ restore_of store.now number words.old }
+    ensures { (answer_of result, words.new) ≡ restore_of store.now number words.old }
 {
-    let laid = restoring::lay(
-        store,
-        places,
-        number,
-        places.len() + 1,
-        words.len(),
-        first,
-        second,
-    );
-    match laid {
-        Laid::Refused(refusal) => Restored::Refused(Fault { refusal, place: 0 }),
-        Laid::Payload(held) => {
-            let size = held.size;
-            Restored::Words(output::put(words, held.group, held.id, &first[..size]))
-        }
-    }
+    let left = places.len() + 1;
+    let held = restoring::lay(store, places, number, left, words.len(), first, second)?;
+    Ok(output::put(words, held.group, held.id, &first[..held.size]))
 }
 
 // The same where at most 1,024 words are lent: a small scratch is enough.
-fn restore_small(store: &[u8], places: &[usize], number: usize, words: &mut [u32]) -> Restored
+fn restore_small(
+    store: &[u8],
+    places: &[usize],
+    number: usize,
+    words: &mut [u32],
+) -> Result<usize, Fault>
     requires { Readied store.now places.now words.old × (length words.old ≤ 1024) }
-    ensures { (restored_meaning result, words.new) ≡ restore_of store.now number words.old }
+    ensures { (answer_of result, words.new) ≡ restore_of store.now number words.old }
 {
     let mut first = [0u8; 3328];
     let mut second = [0u8; 3328];
@@ -62,9 +45,14 @@ fn restore_small(store: &[u8], places: &[usize], number: usize, words: &mut [u32
 }
 
 // The same for any words that may be lent.
-fn restore_large(store: &[u8], places: &[usize], number: usize, words: &mut [u32]) -> Restored
+fn restore_large(
+    store: &[u8],
+    places: &[usize],
+    number: usize,
+    words: &mut [u32],
+) -> Result<usize, Fault>
     requires { Readied store.now places.now words.old }
-    ensures { (restored_meaning result, words.new) ≡ restore_of store.now number words.old }
+    ensures { (answer_of result, words.new) ≡ restore_of store.now number words.old }
 {
     let mut first = [0u8; layout::MOST_BYTES];
     let mut second = [0u8; layout::MOST_BYTES];
@@ -72,9 +60,14 @@ fn restore_large(store: &[u8], places: &[usize], number: usize, words: &mut [u32
 }
 
 // The same, with a scratch that is large enough for the words lent.
-fn restore_noted(store: &[u8], places: &[usize], number: usize, words: &mut [u32]) -> Restored
+fn restore_noted(
+    store: &[u8],
+    places: &[usize],
+    number: usize,
+    words: &mut [u32],
+) -> Result<usize, Fault>
     requires { Readied store.now places.now words.old }
-    ensures { (restored_meaning result, words.new) ≡ restore_of store.now number words.old }
+    ensures { (answer_of result, words.new) ≡ restore_of store.now number words.old }
 {
     if words.len() <= 1024 {
         return restore_small(store, places, number, words);
@@ -84,19 +77,13 @@ fn restore_noted(store: &[u8], places: &[usize], number: usize, words: &mut [u32
 
 // Restores the dump of this number: its base first, then its edits, in fewest-packet form, and zeroes all lent words past it. Long,
 // Format, Twice, Full, Missing, Ring, and then Range and Room along the walk, the base's before its delta's.
-pub fn restore(store: &[u8], number: usize, words: &mut [u32]) -> Restored
-    ensures { (restored_meaning result, words.new) ≡ restore_of store.now number words.old }
+pub fn restore(store: &[u8], number: usize, words: &mut [u32]) -> Result<usize, Fault>
+    ensures { (answer_of result, words.new) ≡ restore_of store.now number words.old }
 {
     if words.len() > layout::MOST_WORDS {
-        return Restored::Refused(Fault {
-            refusal: Refusal::Long,
-            place: 0,
-        });
+        return Err(Refusal::Long.into());
     }
     let mut places = [0usize; 256];
-    let checked = store::index(store, &mut places);
-    match checked {
-        Checked::Refused(fault) => Restored::Refused(fault),
-        Checked::Dumps(count) => restore_noted(store, &places[..count], number, words),
-    }
+    let count = store::index(store, &mut places)?;
+    restore_noted(store, &places[..count], number, words)
 }

@@ -13,36 +13,15 @@ ghost use Rattle.restore.specs.Laying.{Ran, Filling, Lays, base_in};
 use chain::edits::{Reached, skip_data, some_outside};
 use refusal::Refusal;
 use splice::sysex8::words_needed;
-use store::finding::{Found, find};
+use store::finding::find;
 use store::record::{body_here, byte, is_data, is_edit, is_whole, next, number_at};
 
 // A payload laid out: whose group and stream id, and how many bytes of the scratch.
-#[derive(Drop)]
+#[derive(Clone, Copy, Debug, PartialEq, Eq)]
 pub(crate) struct Held {
     pub group: u8,
     pub id: u8,
     pub size: usize,
-}
-
-// A dump laid out, or why it is not.
-#[derive(Drop)]
-pub(crate) enum Laid {
-    Payload(Held),
-    Refused(Refusal),
-}
-
-// Data laid out, or that the scratch has no room for it.
-#[derive(Drop)]
-pub(crate) enum Run {
-    Done(Reached),
-    Over,
-}
-
-// How many bytes are laid out, or that the scratch has no room for them.
-#[derive(Drop)]
-pub(crate) enum Filled {
-    Size(usize),
-    Over,
 }
 
 // Copies `count` bytes from `start` on to the place `done`.
@@ -50,15 +29,12 @@ fn copy(to: &mut [u8], done: usize, from: &[u8], start: usize, count: usize)
     requires { (done + count ≤ length to.old) × (start + count ≤ length from.now) }
     ensures { to.new ≡ paste to.old done (drop start from.now) count }
 {
-    let mut index = 0;
-    while index < count {
-        to[done + index] = from[start + index];
-        index += 1;
-    }
+    to[done..done + count].copy_from_slice(&from[start..start + count]);
 }
 
 // Lays out the data that begins at a place, behind `done` bytes.
-fn copy_data(store: &[u8], at: usize, to: &mut [u8], done: usize) -> Run
+// A `while`: the step is a record's length, which its kind says.
+fn copy_data(store: &[u8], at: usize, to: &mut [u8], done: usize) -> Option<Reached>
     requires { done ≤ length to.old }
     ensures { Ran store.now at (take done to.old ++ data_in (records_from store.now at))
         to.old result to.new }
@@ -68,48 +44,53 @@ fn copy_data(store: &[u8], at: usize, to: &mut [u8], done: usize) -> Run
     while is_data(byte(store, place)) {
         let count = body_here(store, place);
         if to.len() - size < count {
-            return Run::Over;
+            return None;
         }
         copy(to, size, store, place + 1, count);
         size += count;
         place = next(store, place);
     }
-    Run::Done(Reached { at: place, size })
+    Some(Reached { at: place, size })
 }
 
 // Lays out the bytes from `end` up to `from` of a base, behind `done` bytes.
-fn copy_part(base: &[u8], end: usize, from: usize, to: &mut [u8], done: usize) -> Filled
+fn copy_part(base: &[u8], end: usize, from: usize, to: &mut [u8], done: usize) -> Option<usize>
     requires { (from ≤ length base.now) × (done ≤ length to.old) }
     ensures { Filling (take done to.old ++ slice end from base.now) to.old result to.new }
 {
     if from <= end {
-        return Filled::Size(done);
+        return Some(done);
     }
     let count = from - end;
     if to.len() - done < count {
-        return Filled::Over;
+        return None;
     }
     copy(to, done, base, end, count);
-    Filled::Size(done + count)
+    Some(done + count)
 }
 
 // Lays out what a base has from `end` up to the edit at a place, and the edit's data, behind `done` bytes.
-fn copy_edit(store: &[u8], at: usize, base: &[u8], end: usize, to: &mut [u8], done: usize) -> Run
+fn copy_edit(
+    store: &[u8],
+    at: usize,
+    base: &[u8],
+    end: usize,
+    to: &mut [u8],
+    done: usize,
+) -> Option<Reached>
     requires { (at < length store.now) × ((pair_at store.now (at + 1) ≤ length base.now) × (done ≤ length to.old)) }
     ensures { Ran store.now (next_at store.now at)
         ((take done to.old ++ slice end (pair_at store.now (at + 1)) base.now)
         ++ data_in (records_from store.now (next_at store.now at)))
         to.old result to.new }
 {
-    let part = copy_part(base, end, number_at(store, at + 1), to, done);
-    match part {
-        Filled::Over => Run::Over,
-        Filled::Size(size) => copy_data(store, next(store, at), to, size),
-    }
+    let size = copy_part(base, end, number_at(store, at + 1), to, done)?;
+    copy_data(store, next(store, at), to, size)
 }
 
 // Lays out a base's `size` bytes with all edits of a delta, which begin at a place, put in.
-fn copy_edits(store: &[u8], at: usize, base: &[u8], size: usize, to: &mut [u8]) -> Filled
+// A `while`: the step is a record's length, which its kind says.
+fn copy_edits(store: &[u8], at: usize, base: &[u8], size: usize, to: &mut [u8]) -> Option<usize>
     requires { (size ≤ length base.now) × (outside size (patches_in (records_from store.now at)) ≡ false) }
     ensures { Filling (replaced (take size base.now) (patches_in (records_from store.now at)))
         to.old result to.new }
@@ -118,10 +99,7 @@ fn copy_edits(store: &[u8], at: usize, base: &[u8], size: usize, to: &mut [u8]) 
     let mut end = 0;
     let mut done = 0;
     while is_edit(byte(store, place)) {
-        let run = copy_edit(store, place, base, end, to, done);
-        let Run::Done(reached) = run else {
-            return Filled::Over;
-        };
+        let reached = copy_edit(store, place, base, end, to, done)?;
         end = number_at(store, place + 3);
         done = reached.size;
         place = reached.at;
@@ -130,50 +108,47 @@ fn copy_edits(store: &[u8], at: usize, base: &[u8], size: usize, to: &mut [u8]) 
 }
 
 // Lays out the whole dump whose record stands at a place: Room.
-fn lay_whole(store: &[u8], at: usize, lent: usize, to: &mut [u8]) -> Laid
+fn lay_whole(store: &[u8], at: usize, lent: usize, to: &mut [u8]) -> Result<Held, Refusal>
     requires { (at < length store.now) × ((is_whole (get_or store.now at 0) ≡ true) × (13 * lent ≤ 4 * length to.old)) }
     ensures { Lays (roomed (exceeds lent) (whole_at store.now at)) result to.new }
 {
-    let run = copy_data(store, next(store, at), to, 0);
-    match run {
-        Run::Over => Laid::Refused(Refusal::Room),
-        Run::Done(reached) => {
-            if lent < words_needed(reached.size) {
-                return Laid::Refused(Refusal::Room);
-            }
-            Laid::Payload(Held {
-                group: byte(store, at + 3),
-                id: byte(store, at + 4),
-                size: reached.size,
-            })
-        }
+    let reached = copy_data(store, next(store, at), to, 0).ok_or(Refusal::Room)?;
+    if lent < words_needed(reached.size) {
+        return Err(Refusal::Room);
     }
+    Ok(Held {
+        group: byte(store, at + 3),
+        id: byte(store, at + 4),
+        size: reached.size,
+    })
 }
 
 // Lays out the delta whose record stands at a place, from its base in another scratch: Range, Room.
-fn lay_delta(store: &[u8], at: usize, lent: usize, held: Held, base: &[u8], to: &mut [u8]) -> Laid
+fn lay_delta(
+    store: &[u8],
+    at: usize,
+    lent: usize,
+    held: Held,
+    base: &[u8],
+    to: &mut [u8],
+) -> Result<Held, Refusal>
     requires { (at < length store.now) × ((held.size ≤ length base.now) × (13 * lent ≤ 4 * length to.old)) }
     ensures { Lays (rebuilt (exceeds lent) (patches_in (records_from store.now (next_at store.now at)))
         (gives (base_in held base.now))) result to.new }
 {
     let place = next(store, at);
     if some_outside(store, place, held.size) {
-        return Laid::Refused(Refusal::Range);
+        return Err(Refusal::Range);
     }
-    let filled = copy_edits(store, place, base, held.size, to);
-    match filled {
-        Filled::Over => Laid::Refused(Refusal::Room),
-        Filled::Size(size) => {
-            if lent < words_needed(size) {
-                return Laid::Refused(Refusal::Room);
-            }
-            Laid::Payload(Held {
-                group: held.group,
-                id: held.id,
-                size,
-            })
-        }
+    let size = copy_edits(store, place, base, held.size, to).ok_or(Refusal::Room)?;
+    if lent < words_needed(size) {
+        return Err(Refusal::Room);
     }
+    Ok(Held {
+        group: held.group,
+        id: held.id,
+        size,
+    })
 }
 
 // Lays out the dump of this number, its base first, where the walk may come to `left` numbers more: Ring, Missing, and the refusals of
@@ -186,33 +161,18 @@ pub(crate) fn lay(
     lent: usize,
     to: &mut [u8],
     spare: &mut [u8],
-) -> Laid
+) -> Result<Held, Refusal>
     requires { Noted store.now places.now × ((13 * lent ≤ 4 * length to.old) × (13 * lent ≤ 4 * length spare.old)) }
     ensures { Lays (restored (exceeds lent) (dumps_of store.now) left number) result to.new }
 {
     if left == 0 {
-        return Laid::Refused(Refusal::Ring);
+        return Err(Refusal::Ring);
     }
-    let found = find(store, places, number);
-    match found {
-        Found::Nothing => Laid::Refused(Refusal::Missing),
-        Found::At(at) => {
-            if is_whole(byte(store, at)) {
-                return lay_whole(store, at, lent, to);
-            }
-            let base = lay(
-                store,
-                places,
-                number_at(store, at + 3),
-                left - 1,
-                lent,
-                spare,
-                to,
-            );
-            match base {
-                Laid::Refused(refusal) => Laid::Refused(refusal),
-                Laid::Payload(held) => lay_delta(store, at, lent, held, spare, to),
-            }
-        }
+    let at = find(store, places, number).ok_or(Refusal::Missing)?;
+    if is_whole(byte(store, at)) {
+        return lay_whole(store, at, lent, to);
     }
+    let base = number_at(store, at + 3);
+    let held = lay(store, places, base, left - 1, lent, spare, to)?;
+    lay_delta(store, at, lent, held, spare, to)
 }

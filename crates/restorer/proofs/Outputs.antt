@@ -2,9 +2,8 @@
 use mathlib.Core.Path.{◌≡◌, refl, sym, ap}
 use mathlib.Core.Bool.{Bool, true, false, cond}
 use mathlib.Core.List.{List, [], ◌∷◌, ◌++◌}
-use Prim.Native.Nat.{ℕ, suc, ◌-◌, ◌≤◌, ◌<◌}
+use Prim.Native.Nat.{ℕ, suc, ◌-◌, ◌≤◌}
 use native.Mathlib.Omega.{arith}
-use borrow.Author.Tests.{lt-ltb, le-ltb}
 use lib.Dec.{ltb}
 use lib.ListN.{length, take, replicate, length-append}
 use Rattle.refusal.specs.Answer.{Answer, gives, refused, ◌▷◌, guard}
@@ -19,17 +18,6 @@ use Rattle.store.specs.Store.{dumps_of, sound}
 use Rattle.chain.specs.Restore.{Payload, laid_out, answered, restored, restore}
 use Rattle.chain.specs.Restore as paper
 use Rattle.restorer.specs.Output.{restore_limited, output_of, output}
-
--- ---- the limit of the store
-
-module _ (store : List ℕ) (number : ℕ) (words : List ℕ) where
-  pub limited_long : 1048576 < length store → (refused 1 0, words) ≡ restore_limited store number words
-  unfolding restore_limited
-  limited_long h = rw (lt-ltb _ _ h)
-
-  pub limited_whole : length store ≤ 1048576 → restore store number words ≡ restore_limited store number words
-  unfolding restore_limited
-  limited_whole h = rw (le-ltb _ _ h)
 
 -- ---- a restored message lies within the words lent
 

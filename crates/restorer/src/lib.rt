@@ -11,28 +11,22 @@
 mod argument;
 pub mod output;
 
-use argument::Number;
-use listing::Listed;
-use standard_input::Input;
 use std::env::{Env, FillError};
 use std::io;
 
 // The number that the program is called with: its one argument.
-fn asked(rt: &impl Env) -> Number {
+fn asked(rt: &impl Env) -> Option<usize> {
     let mut digits = [0u8; 64];
-    let Ok(size) = rt.arg(1, &mut digits) else {
-        return Number::Nothing;
-    };
+    let size = rt.arg(1, &mut digits).ok()?;
     let Err(FillError::NotPresent) = rt.arg(2, &mut []) else {
-        return Number::Nothing;
+        return None;
     };
     argument::number_in(&digits[..size])
 }
 
 // Writes the dump of this number to standard output, at once. The error says why not all of it was written.
 fn write_dump(rt: &impl Print, store: &[u8], number: usize, text: &mut [u8]) -> io::Result<()> {
-    let written = output::write(store, number, text);
-    let Listed::Text(size) = written else {
+    let Ok(size) = output::write(store, number, text) else {
         return Err(io::Error::other("no room for the dump"));
     };
     rt.write_all(&text[..size])
@@ -46,13 +40,12 @@ fn restore_input(
     text: &mut [u8],
 ) -> io::Result<()> {
     let size = match standard_input::read_input(rt, bytes) {
-        Input::Bytes(size) => size,
-        Input::Failed(error) => return eprintln!(rt; "sx8restore: read: {error}"),
+        Ok(size) => size,
+        Err(error) => return eprintln!(rt; "sx8restore: read: {error}"),
     };
-    match write_dump(rt, &bytes[..size], number, text) {
-        Ok(()) => Ok(()),
-        Err(error) => eprintln!(rt; "sx8restore: write: {error}"),
-    }
+    write_dump(rt, &bytes[..size], number, text).or_else(|error| eprintln!(rt;
+        "sx8restore: write: {error}"
+    ))
 }
 
 // Room for one byte over the longest store, which is enough to refuse a longer one, and for the longest message.
@@ -65,7 +58,7 @@ fn restore_number(rt: &(impl io::Input + Print + Eprint), number: usize) -> io::
 // The program. An error says that standard error could not be written.
 pub fn run(rt: &(impl Env + io::Input + Print + Eprint)) -> io::Result<()> {
     match asked(rt) {
-        Number::Given(given) => restore_number(rt, given),
-        Number::Nothing => eprintln!(rt; "usage: sx8restore NUMBER < STORE"),
+        Some(given) => restore_number(rt, given),
+        None => eprintln!(rt; "usage: sx8restore NUMBER < STORE"),
     }
 }

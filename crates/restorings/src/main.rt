@@ -2,6 +2,7 @@
 #![tactic(auto)]
 
 use std::io;
+use stores::samples::report_all;
 
 mod reading;
 mod restoring;
@@ -9,7 +10,7 @@ mod restoring;
 // Writes a line for each sample.
 fn main(rt: HostRuntime) -> io::Result<()> {
     reading::report_read(&rt)?;
-    restoring::report_same(&rt)?;
-    restoring::report_freed(&rt)?;
-    Ok(())
+    report_all(&rt, &restoring::SAME)?;
+    report_all(&rt, &restoring::FREED)?;
+    restoring::report_after(&rt)
 }

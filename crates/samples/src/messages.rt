@@ -10,10 +10,7 @@ pub(crate) fn p1() -> bool {
 // 52030741 42000000 0 0: group 2, id 07, payload 41 42.
 pub(crate) fn p2() -> bool {
     let words = [0x5203_0741u32, 0x4200_0000, 0, 0];
-    if !is_message(&words, 2, 7, 2) {
-        return false;
-    }
-    has_payload(&words, b"\x41\x42")
+    is_message(&words, 2, 7, 2) && has_payload(&words, b"\x41\x42")
 }
 
 // P4's first five words: 4.

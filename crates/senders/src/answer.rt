@@ -1,5 +1,4 @@
 // The call's answer, compared; and the messages of the samples, group 2, stream id 7.
-use carries::Carried;
 
 // 27 bytes.
 pub const BYTES: [u8; 27] = [
@@ -45,11 +44,7 @@ pub const FILLED: [u32; 16] = [
 
 // A yes.
 pub fn yes(words: &[u32], payload: &[u8], group: u8, id: u8) -> bool {
-    let answer = carries::carries(words, words.len(), payload, group, id);
-    match answer {
-        Carried::Yes => true,
-        Carried::Refused(_) => false,
-    }
+    carries::carries(words, words.len(), payload, group, id).is_ok()
 }
 
 // A no with this number and place, of a message in the first `length` words.
@@ -63,10 +58,7 @@ pub fn no_of(
     place: usize,
 ) -> bool {
     let answer = carries::carries(words, length, payload, group, id);
-    let Carried::Refused(fault) = answer else {
-        return false;
-    };
-    compare::is_fault(fault, number, place)
+    answer.is_err_and(|fault| compare::is_fault(fault, number, place))
 }
 
 // Something else is carried than this payload with group 2 and stream id 7; at this place.

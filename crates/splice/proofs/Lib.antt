@@ -15,3 +15,4 @@ pub mod One
 pub mod Calls
 pub mod Unique
 pub mod ShutOut
+pub mod Outgrowing

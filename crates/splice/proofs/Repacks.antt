@@ -1,7 +1,7 @@
 -- The loop that packs a message, packet by packet. Assumes nothing.
 use mathlib.Core.Path.{◌≡◌, refl, ap, ◌∙◌}
 use mathlib.Core.List.{List}
-use Prim.Native.Nat.{ℕ, ◌+◌, ◌*◌, ◌/◌, ◌^◌, ◌≤◌, ◌<◌}
+use Prim.Native.Nat.{ℕ, ◌+◌, ◌*◌, ◌/◌, ◌≤◌, ◌<◌}
 use native.Mathlib.Omega.{arith}
 use lib.ListN.{length, get_or}
 use Rattle.ump.specs.Limits.{most_words}
@@ -22,7 +22,7 @@ use Rattle.message.specs.Accepted.{Accepted}
 use Rattle.splice.specs.Header.{base_of, finished}
 use Rattle.merge.specs.Thirteens.{body, front_of}
 use Rattle.merge.specs.Pieces.{none, taken, Reaches, Appends, Flows, Flushed}
-use Rattle.merge.specs.declared.pending.Pending.{Pending}
+use Rattle.merge.specs.declared.held.Pending.{Pending}
 use Rattle.splice.proofs.Messages.{inside, there, counts, end_fits, base_is}
 use Rattle.splice.proofs.Finished.{finished_is}
 use Rattle.merge.proofs.Sums.{flows_padded}
@@ -43,9 +43,6 @@ module _ {w : List ℕ} {len n : ℕ} (ok : Accepted w len n) (head : ℕ) where
   pub repack-start : Repacks w len head 0 (none 0) w
   unfolding payload joined
   repack-start = record { flows = flow_start sysex8 w bytes head; all = refl }
-
-  pub repack_high : {p : ℕ} {flow : Pending} {us : List ℕ} → Repacks w len head p flow us → flow.high < 2 ^ 40
-  repack_high f = (flows_padded f.flows below).fits
 
   module _ (p : ℕ) (flow : Pending) (us : List ℕ) (f : Repacks w len head p flow us) (h : p < len / 4) where
     -- no packet is written before it is read

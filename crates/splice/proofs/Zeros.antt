@@ -1,41 +1,13 @@
 -- Laws of zeros in a list, and of a message put over old words. Assumes nothing.
 use mathlib.Core.Path.{◌≡◌, refl, sym, ap, ◌∙◌}
-use mathlib.Core.List.{List, [], ◌∷◌, ◌++◌, append_assoc}
-use Prim.Native.Nat.{ℕ, zero, suc, ◌+◌, ◌-◌, ◌≤◌, ◌<◌, max}
+use mathlib.Core.List.{List, ◌++◌, append_assoc}
+use Prim.Native.Nat.{ℕ, zero, suc, ◌+◌, ◌-◌, ◌≤◌, max}
 use native.Mathlib.Nat.{suc-sub-suc, sub-zero, zero-sub}
 use native.Mathlib.Omega.{arith}
-use lib.ListN.{length, take, drop, set, get_or, replicate, length-append, length-take, length-replicate, replicate-append-replicate, take-append-drop}
-use lib.Seq.{take_at, set_at, drop-cons, drop-append-add, drop-drop}
+use lib.ListN.{length, drop, replicate, replicate-append-replicate}
+use lib.Seq.{take_at, drop-append-add, drop-drop}
 use Rattle.ump.specs.Splice.{stored}
 use Rattle.splice.specs.Zeros.{zeroed}
-
--- ---- zeros
-
-module _ (l : List ℕ) (from : ℕ) where
-  pub zero_start : l ≡ zeroed l from from
-  zero_start =
-      let a : from - from ≡ 0 = omega arith in
-      let b : max from from ≡ from = omega arith in
-      rw (a, b) (sym (take-append-drop from l))
-
-  pub zero_step : (k : ℕ) → from ≤ k → k < length l → set (zeroed l from k) k 0 ≡ zeroed l from (k + 1)
-  zero_step k low high =
-      let a : max k from ≡ k = omega arith in
-      let b : max (k + 1) from ≡ suc k = omega arith in
-      let c : k + 1 - from ≡ k - from + 1 = omega arith in
-      let before = take from l ++ replicate (k - from) 0 in
-      let long : length before ≡ k = simp (length-append, length-take, length-replicate) (omega arith) in
-      rw (a, b, c, drop-cons l k 0 high, ← replicate-append-replicate {A = ℕ} (k - from) 1 0)
-      (ap (λ (x : List ℕ). set x k 0) (sym (append_assoc (take from l) (replicate (k - from) 0) (get_or l k 0 ∷ drop (suc k) l)))
-      ∙ set_at before (get_or l k 0) (drop (suc k) l) 0 k long
-      ∙ append_assoc (take from l) (replicate (k - from) 0) (0 ∷ drop (suc k) l)
-      ∙ ap (λ (x : List ℕ). take from l ++ x) (sym (append_assoc (replicate (k - from) 0) (0 ∷ []) (drop (suc k) l))))
-
-  pub zero_end : (to : ℕ) → zeroed l from (max to from) ≡ zeroed l from to
-  zero_end to =
-      let a : max to from - from ≡ to - from = omega arith in
-      let b : max (max to from) from ≡ max to from = omega arith in
-      rw (a, b)
 
 -- ---- a message put over old words, and zeros up to the old end
 

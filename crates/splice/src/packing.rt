@@ -17,11 +17,7 @@ pub(crate) fn zero(words: &mut [u32], from: usize, to: usize)
     requires { (from ≤ length words.old) × (to ≤ length words.old) }
     ensures { words.new ≡ zeroed words.old from to }
 {
-    let mut index = from;
-    while index < to {
-        words[index] = 0;
-        index += 1;
-    }
+    words[from..to.max(from)].fill(0);
 }
 
 // Makes the first words of the first and the last packet of a message of `size` bytes in `end` words anew, each with its byte, and zeroes
@@ -47,10 +43,8 @@ pub(crate) fn pack(words: &mut [u32], length: usize, size: usize) -> usize
     let end = words_needed(size);
     let packets = length / 4;
     let mut flow = nothing(0);
-    let mut packet = 0;
-    while packet < packets {
+    for packet in 0..packets {
         flow = take_packet(words, head, flow, packet);
-        packet += 1;
     }
     flush(words, head, flow, end / 4);
     finish(words, base, size, end, length);

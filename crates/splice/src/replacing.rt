@@ -12,8 +12,7 @@ ghost use Rattle.splice.specs.Merging.{Listed, Within, less_after, Summed, Begin
 use super::header::{base_of, inner_head, level};
 use super::packing::{finish, pack};
 use super::sysex8::words_needed;
-use merge::merging::merge;
-use merge::numbers::over;
+use merge::merging::{Growing, Shrinking, merge};
 
 // Whether every packet but the last is full: only then do the others carry as much as they can.
 pub(crate) fn is_full(words: &[u32], length: usize, size: usize) -> bool
@@ -43,15 +42,13 @@ fn outgrows(numbers: &[usize], room: usize) -> bool
     let count = numbers.len() / 3;
     let mut added = 0;
     let mut removed = 0;
-    let mut index = 0;
-    while index < count {
+    for index in 0..count {
         let at = 3 * index;
         added += numbers[at + 2];
         removed += numbers[at + 1] - numbers[at];
         if removed + room < added {
             return true;
         }
-        index += 1;
     }
     false
 }
@@ -63,12 +60,10 @@ fn less_after(numbers: &[usize], size: usize) -> usize
 {
     let count = numbers.len() / 3;
     let mut left = size;
-    let mut index = 0;
-    while index < count {
+    for index in 0..count {
         let at = 3 * index;
         let width = numbers[at + 1] - numbers[at];
-        left = over(left, over(width, numbers[at + 2]));
-        index += 1;
+        left = left.saturating_sub(width.saturating_sub(numbers[at + 2]));
     }
     left
 }
@@ -85,14 +80,42 @@ fn merge_all(
     requires { BeginsAll words.old head size total numbers.now bytes.now }
     ensures { EndsAll words.old head size total numbers.now bytes.now words.new }
 {
-    let gained = over(layout::sysex8_packets(total), layout::sysex8_packets(size));
+    let needed = layout::packets_for::<layout::Sysex8>(total);
+    let gained = needed.saturating_sub(layout::packets_for::<layout::Sysex8>(size));
     if outgrows(numbers, 13 * gained + 12) {
         let less = less_after(numbers, size);
-        merge(words, head, size, less, numbers, bytes, false, false);
-        merge(words, head, less, total, numbers, bytes, true, true);
+        merge(
+            words,
+            head,
+            size,
+            less,
+            numbers,
+            bytes,
+            Shrinking::Now,
+            Growing::After,
+        );
+        merge(
+            words,
+            head,
+            less,
+            total,
+            numbers,
+            bytes,
+            Shrinking::Before,
+            Growing::Now,
+        );
         return;
     }
-    merge(words, head, size, total, numbers, bytes, false, true);
+    merge(
+        words,
+        head,
+        size,
+        total,
+        numbers,
+        bytes,
+        Shrinking::Now,
+        Growing::Now,
+    );
 }
 
 // Replaces all ranges of a list in the payload of a valid message at once, and writes the fewest-packet form of the result, of `total`

@@ -1,4 +1,6 @@
 -- Format, Twice, Full, each before the next. Assumes nothing.
+use Rattle.std.specs.Prelude.{Option, None, Result, Ok, Err}
+use Rattle.std.specs.Option.{ok_or}
 use mathlib.Core.Path.{◌≡◌, refl, sym, ap, ◌∙◌}
 use mathlib.Core.Bool.{Bool, true, false, not}
 use mathlib.Core.List.{List}
@@ -11,13 +13,13 @@ use borrow.Author.Tests.{ltb-false}
 use Rattle.refusal.specs.Answer.{gives, refused, pass, ◌▷◌, guard}
 use Rattle.refusal.specs.Number.{number_of, Named, accepted}
 use Rattle.refusal.specs.declared.Fault.{Fault}
+use Rattle.refusal.specs.declared.Refusal.{Refusal}
 use Rattle.refusal.specs.declared.Refusal.TheVariants.{Format, Twice, Full}
 use Rattle.refusal.proofs.Laws.{never_refused, given_passes, refused_by, by_guard, by_both}
 use Rattle.store.specs.Store.{records_of, at_start, well_formed, Dump, dumps_of, numbers_of, twice, most_dumps, sound, check_store}
 use Rattle.store.specs.Places.{dump_at, Noted}
-use Rattle.store.specs.Meaning.{checked_meaning, Indexes}
-use Rattle.store.specs.declared.Checked.{Checked}
-use Rattle.store.specs.declared.Checked.TheVariants as checked
+use Rattle.store.specs.Meaning.{Indexes}
+use Rattle.refusal.specs.Meaning.{answer_of}
 
 module _ (store : List ℕ) where
   abbrev form : Bool
@@ -73,6 +75,10 @@ sound_named store =
 pub check_named : (store : List ℕ) → Named (check_store store)
 check_named store = by_both _ _ (sound_named store) accepted
 
+-- the refusal in place of a value that is not there
+pub ok_or_err : {A : Type 0} {r : Option A} {x y : Refusal} → r ≡ None → Err x ≡ ok_or r y → x ≡ y
+ok_or_err {A} {r} {x} {y} n e = let k : ◌≡◌ {A = Result A Refusal} (Err x) (Err y) = e ∙ ap (λ (o : Option A). ok_or o y) n in cc
+
 -- ---- the answer, and the places
 
 pub check_refused : (store : List ℕ) {number : ℕ} → sound store ≡ refused number 0 → check_store store ≡ refused number 0
@@ -81,12 +87,12 @@ check_refused store e = rw e
 pub check_passed : (store : List ℕ) {count : ℕ} → sound store ≡ pass → count ≡ length (dumps_of store) → gives count ≡ check_store store
 check_passed store e q = rw (e, q)
 
-pub indexes_refused : {store places : List ℕ} {r : Checked} {number : ℕ} → checked_meaning r ≡ refused number 0 → sound store ≡ refused number 0 → Indexes store r places
+pub indexes_refused : {store places : List ℕ} {r : (Result ℕ Fault)} {number : ℕ} → answer_of r ≡ refused number 0 → sound store ≡ refused number 0 → Indexes store r places
 indexes_refused {store} m e =
-    record { checks = m ∙ sym (check_refused store e); notes = λ count q. never_refused (sym m ∙ ap checked_meaning q) }
+    record { checks = m ∙ sym (check_refused store e); notes = λ count q. never_refused (sym m ∙ ap answer_of q) }
 
 pub indexes_passed : {store places : List ℕ} {count : ℕ} → sound store ≡ pass → count ≡ length (dumps_of store)
-    → (count ≤ length places → Noted store (take count places)) → Indexes store (checked.Dumps count) places
+    → (count ≤ length places → Noted store (take count places)) → Indexes store (Ok count) places
 indexes_passed {store} {places} {count} e q n =
     record {
       checks = check_passed store e q;
@@ -103,10 +109,10 @@ pub record Indexed (store places : List ℕ) (count : ℕ) : Type 0 where
   pub long : length (take count places) ≡ count
   pub few : count ≤ most_dumps
 
-module _ {store places : List ℕ} {r : Checked} (i : Indexes store r places) where
-  pub index_given : most_dumps ≤ length places → {count : ℕ} → r ≡ checked.Dumps count → Indexed store places count
+module _ {store places : List ℕ} {r : (Result ℕ Fault)} (i : Indexes store r places) where
+  pub index_given : most_dumps ≤ length places → {count : ℕ} → r ≡ Ok count → Indexed store places count
   index_given h {count} e =
-      let p = given_passes (sound store) (sym i.checks ∙ ap checked_meaning e) in
+      let p = given_passes (sound store) (sym i.checks ∙ ap answer_of e) in
       let k : count ≤ length places = omega (arith, h, p.1, (sound_good store p.0).few) in
       record {
         passes = p.0;
@@ -116,8 +122,8 @@ module _ {store places : List ℕ} {r : Checked} (i : Indexes store r places) wh
         few = omega (arith, p.1, (sound_good store p.0).few);
       }
 
-  pub index_refused : {fault : Fault} → r ≡ checked.Refused fault → sound store ≡ refused (number_of fault.refusal) fault.place
-  index_refused e = refused_by (sound store) (length (dumps_of store)) (sym i.checks ∙ ap checked_meaning e)
+  pub index_refused : {fault : Fault} → r ≡ Err fault → sound store ≡ refused (number_of fault.refusal) fault.place
+  index_refused e = refused_by (sound store) (length (dumps_of store)) (sym i.checks ∙ ap answer_of e)
 
 -- as many places as dumps
 pub noted_count : (store places : List ℕ) → Noted store places → length places ≡ length (dumps_of store)

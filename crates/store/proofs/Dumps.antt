@@ -27,13 +27,6 @@ dump_kinds P w x d y k e = go (eqb k 1) (eqb k 17) (eqb k 2) (eqb k 18) refl ref
 pub dump_small : (k : ℕ) → is_dump k ≡ true → k < 19
 dump_small k e = dump_kinds (λ n. n < 19) (omega arith) (omega arith) (omega arith) (omega arith) k e
 
-pub dump_high : (k : ℕ) → 18 < k → false ≡ is_dump k
-dump_high k h = go (is_dump k) refl
-  where
-    go : (b : Bool) → is_dump k ≡ b → false ≡ b
-    go true e = absurd (omega (arith, dump_small k e))
-    go false e = refl
-
 -- the number of the dump that a record begins
 pub dump-number : (r : Record) (rs : List Record) → dump_number (dump_of r rs) ≡ pair_at r.body 0
 unfolding dump_of

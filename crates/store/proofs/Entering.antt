@@ -1,4 +1,5 @@
 -- One pass over the dumps: numbers used, places noted. Assumes nothing.
+use Rattle.std.specs.Prelude.{Some, None}
 use mathlib.Core.Path.{◌≡◌, refl, sym, ap, ◌∙◌}
 use mathlib.Core.Bool.{Bool, true, false, ◌||◌}
 use mathlib.Core.List.{List, [], ◌∷◌, ◌++◌, map, append-nil}
@@ -13,7 +14,6 @@ use Rattle.ump.specs.Edits.{elem}
 use Rattle.store.specs.Store.{is_dump, Dump, dumps_of, numbers_of, twice}
 use Rattle.store.specs.Places.{next_at, dumps_from, dump_at, DumpBegins, Noted, flagged, Flags, Entering}
 use Rattle.store.specs.Meaning.{Enters, Passed}
-use Rattle.store.specs.declared.numbers.Entered.TheVariants as entered
 use Rattle.store.proofs.Records.{not_both}
 use Rattle.store.proofs.Flagging.{none-flagged, flag_inside}
 use Rattle.store.proofs.Dumps.{dumps_end, dumps_here, dumps_past, number_here}
@@ -171,26 +171,18 @@ module _ {store : List ℕ} {at count : ℕ} {used places : List ℕ} (e : Enter
 -- ---- by cases
 
 module _ {store : List ℕ} {at : ℕ} {used places : List ℕ} where
-  pub enters_on : {count : ℕ} → Entering store (next_at store at) count used places → Enters store at (entered.Count count) used places
+  pub enters_on : {count : ℕ} → Entering store (next_at store at) count used places → Enters store at (Some count) used places
   enters_on {count} e =
       record {
         on = λ count' q. let same : count ≡ count' = cc in rw same at e;
         again = λ q. let z : ◌≡◌ {A = ℕ} 0 1 = cc in absurd (omega arith);
       }
 
-  pub enters_again : twice (numbers_of (dumps_of store)) ≡ true → Enters store at entered.Again used places
+  pub enters_again : twice (numbers_of (dumps_of store)) ≡ true → Enters store at None used places
   enters_again t = record { on = λ count q. let z : ◌≡◌ {A = ℕ} 0 1 = cc in absurd (omega arith); again = λ q. t }
 
-pub passed_again : {store places : List ℕ} → twice (numbers_of (dumps_of store)) ≡ true → Passed store entered.Again places
-passed_again t =
-    record {
-      counts = λ count q. let z : ◌≡◌ {A = ℕ} 0 1 = cc in absurd (omega arith);
-      notes = λ count q. let z : ◌≡◌ {A = ℕ} 0 1 = cc in absurd (omega arith);
-      again = λ q. t;
-    }
-
 pub passed_all : {store : List ℕ} {at count : ℕ} {used places : List ℕ} → Entering store at count used places → length store ≤ at
-    → Passed store (entered.Count count) places
+    → Passed store (Some count) places
 passed_all {store} {at} {count} {used} {places} e h =
     record {
       counts = λ count' q. let same : count ≡ count' = cc in (entering_once e h, sym same ∙ entering_count e h);

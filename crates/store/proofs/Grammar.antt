@@ -1,69 +1,84 @@
 -- What may follow what, record by record. Assumes nothing.
 use mathlib.Core.Path.{◌≡◌, refl, sym, ap, ◌∙◌}
-use mathlib.Core.Bool.{Bool, true, false, cond}
+use mathlib.Core.Bool.{Bool, true, false, cond, ◌&&◌}
+use mathlib.Core.Logic.{◌≢◌, ◌⊎◌, inl, inr}
 use mathlib.Core.List.{List}
 use Prim.Native.Nat.{ℕ, ◌+◌, ◌≤◌, ◌<◌}
 use native.Mathlib.Omega.{arith}
 use lib.Dec.{ltb, leb}
 use lib.ListN.{length, get_or, take, drop, length-drop}
 use lib.Seq.{length-take-le}
-use borrow.Author.Tests.{eq-eqb, ne_eqb, eqb-true}
+use borrow.Author.Tests.{eq-eqb, ne_eqb, le-leb}
 use Rattle.ump.specs.Word.{pair_at}
 use Rattle.store.specs.Store.{is_whole, is_delta, is_edit, is_data, body_size, follows_by, allowed_by, follows, allowed, fits, well_formed}
 use Rattle.store.specs.Places.{record_at, next_at, records_from}
+use Rattle.store.specs.Meaning.{kind_of}
 use Rattle.store.specs.declared.format.Follow.{Follow}
+use Rattle.store.specs.declared.format.Kind.{Kind}
+use Rattle.store.specs.declared.format.Kind.TheVariants as kinds
 use Rattle.store.proofs.Records.{data_other, records_end, records_step, body_byte, body_pair}
 
 -- ---- by kinds
 
-module _ (f : Follow) (k to : ℕ) where
-  pub after_data : is_data k ≡ true → f ≡ follows_by f k to
+pub kind_data : (k : ℕ) → 129 ≤ k → k ≤ 141 → kinds.Data ≡ kind_of k
+unfolding is_data
+kind_data k h l =
+    let d : is_data k ≡ true = rw (le-leb 129 k h, le-leb k 141 l) in
+    let o = data_other k d in
+    rw (o.0, o.1.0, o.1.1, le-leb 129 k h, le-leb k 141 l)
+
+pub kind_other : (k : ℕ) → (k ≡ 1 ⊎ k ≡ 17 → ⊥) → (k ≡ 2 ⊎ k ≡ 18 → ⊥) → k ≢ 3 → is_data k ≡ false → kinds.Other ≡ kind_of k
+kind_other k a b c d =
+    rw (ne_eqb k 1 (λ e. a (inl e)), ne_eqb k 17 (λ e. a (inr e)), ne_eqb k 2 (λ e. b (inl e)), ne_eqb k 18 (λ e. b (inr e)), ne_eqb k 3 c, d)
+
+module _ (f : Follow) where
+  -- what may follow a record of this kind
+  abbrev pub after_kind : Kind → ℕ → Follow
+  after_kind kinds.Whole to = record { edits = false; bytes = true; end = 0 }
+  after_kind kinds.Delta to = record { edits = true; bytes = false; end = 0 }
+  after_kind kinds.Edit to = record { edits = true; bytes = true; end = to }
+  after_kind kinds.Data to = f
+  after_kind kinds.Other to = f
+
+  pub after_by : (k to : ℕ) → {kind : Kind} → kind ≡ kind_of k → after_kind kind to ≡ follows_by f k to
   unfolding follows_by
-  after_data d = let o = data_other k d in rw (o.0, o.1.0, o.1.1)
-
-  pub after_edit : is_edit k ≡ true → record { edits = true; bytes = true; end = to } ≡ follows_by f k to
-  unfolding follows_by
-  after_edit c = let is : k ≡ 3 = eqb-true k 3 c in rw is
-
-  pub after_whole : is_whole k ≡ true → record { edits = false; bytes = true; end = 0 } ≡ follows_by f k to
-  unfolding follows_by
-  after_whole a = rw a
-
-  module _ (a : is_whole k ≡ false) where
-    pub after_delta : is_delta k ≡ true → record { edits = true; bytes = false; end = 0 } ≡ follows_by f k to
-    unfolding follows_by
-    after_delta b = rw (a, b)
-
-    pub after_other : is_delta k ≡ false → is_edit k ≡ false → f ≡ follows_by f k to
-    unfolding follows_by
-    after_other b c = rw (a, b, c)
-
-module _ (f : Follow) (k group from : ℕ) where
-  pub allow_data : is_data k ≡ true → f.bytes ≡ allowed_by f k group from
-  unfolding allowed_by
-  allow_data d = let o = data_other k d in rw (o.0, o.1.0, o.1.1, d)
-
-  module _ (c : is_edit k ≡ true) where
-    pub allow_no_edit : f.edits ≡ false → false ≡ allowed_by f k group from
-    unfolding allowed_by
-    allow_no_edit e = let is : k ≡ 3 = eqb-true k 3 c in rw (is, e)
-
-    pub allow_edit : f.edits ≡ true → leb f.end from ≡ allowed_by f k group from
-    unfolding allowed_by
-    allow_edit e = let is : k ≡ 3 = eqb-true k 3 c in rw (is, e)
-
-  pub allow_whole : is_whole k ≡ true → ltb group 16 ≡ allowed_by f k group from
-  unfolding allowed_by
-  allow_whole a = rw a
-
-  -- a delta may stand anywhere, an unknown kind nowhere
-  pub allow_rest : is_whole k ≡ false → is_edit k ≡ false → is_data k ≡ false → is_delta k ≡ allowed_by f k group from
-  unfolding allowed_by
-  allow_rest a c d = rw (a, c, d) (go (is_delta k))
+  after_by k to e = rw e (go (is_whole k) (is_delta k) (is_edit k) (is_data k))
     where
-      go : (b : Bool) → b ≡ cond b true false
-      go true = refl
-      go false = refl
+      go : (a b c d : Bool) → after_kind (cond a kinds.Whole (cond b kinds.Delta (cond c kinds.Edit (cond d kinds.Data kinds.Other)))) to
+          ≡ cond a (record { edits = false; bytes = true; end = 0 }) (cond b (record { edits = true; bytes = false; end = 0 }) (cond c (record { edits = true; bytes = true; end = to }) f))
+      go true b c d = refl
+      go false true c d = refl
+      go false false true d = refl
+      go false false false true = refl
+      go false false false false = refl
+
+  -- whether a record of this kind may stand here
+  abbrev pub kind_allowed : Kind → ℕ → ℕ → Bool
+  kind_allowed kinds.Whole group from = ltb group 16
+  kind_allowed kinds.Delta group from = true
+  kind_allowed kinds.Edit group from = f.edits && leb f.end from
+  kind_allowed kinds.Data group from = f.bytes
+  kind_allowed kinds.Other group from = false
+
+  pub allow_by : (k group from : ℕ) → {kind : Kind} → kind ≡ kind_of k → kind_allowed kind group from ≡ allowed_by f k group from
+  unfolding allowed_by
+  allow_by k group from e = rw e (go (is_whole k) (is_delta k) (is_edit k) (is_data k))
+    where
+      go : (a b c d : Bool) → kind_allowed (cond a kinds.Whole (cond b kinds.Delta (cond c kinds.Edit (cond d kinds.Data kinds.Other)))) group from
+          ≡ cond a (ltb group 16) (cond b true (cond c (f.edits && leb f.end from) (d && f.bytes)))
+      go true b c d = refl
+      go false true c d = refl
+      go false false true d = refl
+      go false false false true = refl
+      go false false false false = refl
+
+  after_data : (k to : ℕ) → is_data k ≡ true → f ≡ follows_by f k to
+  unfolding follows_by
+  after_data k to d = let o = data_other k d in rw (o.0, o.1.0, o.1.1)
+
+  allow_data : (k group from : ℕ) → is_data k ≡ true → f.bytes ≡ allowed_by f k group from
+  unfolding allowed_by
+  allow_data k group from d = let o = data_other k d in rw (o.0, o.1.0, o.1.1, d)
 
 -- ---- by place: a body of data is read for numbers that do not matter
 

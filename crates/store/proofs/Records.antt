@@ -2,12 +2,12 @@
 use mathlib.Core.Path.{◌≡◌, refl, sym, ap, ◌∙◌}
 use mathlib.Core.Bool.{Bool, true, false, ◌&&◌, ◌||◌}
 use mathlib.Core.List.{List, [], ◌∷◌}
-use Prim.Native.Nat.{ℕ, zero, suc, ◌+◌, ◌-◌, ◌≤◌, ◌<◌}
+use Prim.Native.Nat.{ℕ, zero, suc, ◌+◌, ◌-◌, ◌≤◌, ◌<◌, min}
 use native.Mathlib.Omega.{arith}
 use lib.Dec.{eqb, leb}
 use lib.ListN.{length, get_or, take, drop, length-drop, drop_of_length-le}
 use lib.Seq.{take_all, drop-cons, drop-drop, get_or-take, get_or-drop}
-use borrow.Author.Tests.{eq-eqb, ne_eqb, le-leb, lt-leb, leb-true}
+use borrow.Author.Tests.{eq-eqb, ne_eqb, le-leb, lt-leb, leb-true, leb-false}
 use Rattle.ump.specs.Word.{pair_at}
 use Rattle.store.specs.Store.{is_whole, is_delta, is_edit, is_data, body_size, Record, records_after, records_of}
 use Rattle.store.specs.Places.{record_at, next_at}
@@ -114,3 +114,13 @@ pub body_whole : (store : List ℕ) (at : ℕ) {r : ℕ} → r ≡ body_size (ge
 body_whole store at {r} h =
     let q : at + 1 ≡ suc at = omega arith in
     ap (λ (n : ℕ). take r (drop n store)) q ∙ ap (λ (n : ℕ). take n (drop (suc at) store)) h
+
+pub body_min : (store : List ℕ) (at : ℕ) {r size : ℕ} → size ≡ body_size (get_or store at 0) → r ≡ min size (length store - at - 1)
+    → take r (drop (at + 1) store) ≡ (record_at store at).body
+body_min store at {r} {size} q h = go (leb size (length store - at - 1)) refl
+  where
+    go : (b : Bool) → leb size (length store - at - 1) ≡ b → take r (drop (at + 1) store) ≡ (record_at store at).body
+    go true e = let l = leb-true size (length store - at - 1) e in body_whole store at (omega (arith, q, h, l))
+    go false e =
+        let l = leb-false size (length store - at - 1) e in
+        body_short store at r (omega (arith, h, l)) (omega (arith, q, h, l))

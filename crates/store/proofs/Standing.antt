@@ -1,52 +1,76 @@
 -- The dump of a number, among the places of all dumps. Assumes nothing.
-use mathlib.Core.Path.{◌≡◌, sym, ap, ◌∙◌}
-use mathlib.Core.Bool.{Bool, true, false, ◌&&◌}
-use mathlib.Core.Option.{none, some}
-use mathlib.Core.List.{List, map}
-use Prim.Native.Nat.{ℕ, ◌+◌, ◌≤◌, ◌<◌}
-use native.Mathlib.Numerals.{add-one}
-use lib.ListN.{length, get_or, drop, drop_of_length-le}
-use lib.Seq.{drop-cons}
+use Rattle.std.specs.Prelude.{Option, None, Some}
+use Rattle.std.specs.Option.{option_map}
+use Rattle.std.specs.List.{find}
+use mathlib.Core.Path.{◌≡◌, refl, sym, ap, ◌∙◌}
+use mathlib.Core.Bool.{Bool, true, false, cond, ◌&&◌}
+use mathlib.Core.List.{List, [], ◌∷◌, map}
+use Prim.Native.Nat.{ℕ, suc, ◌+◌, ◌<◌}
+use native.Mathlib.Omega.{arith}
+use lib.ListN.{length, get_or}
 use lib.Dec.{eqb, ltb}
 use borrow.Author.Tests.{eq-eqb, ne_eqb, eqb-true, eqb-false, lt-ltb, ltb-true}
 use Rattle.ump.specs.Word.{pair_at}
-use Rattle.store.specs.Store.{Dump, dump_number, held, dumps_of}
-use Rattle.store.specs.Places.{dump_at, DumpBegins, Noted}
+use Rattle.store.specs.Store.{Dump, dump_number, held}
+use Rattle.store.specs.Places.{dump_at, DumpBegins}
+use Rattle.store.specs.Meaning.{found_meaning, FoundDump, FoundInside, Finds}
 use Rattle.store.proofs.Records.{and-true}
 use Rattle.store.proofs.Dumps.{number_here}
 
--- the dumps that stand at the places from an index on
-abbrev pub standing : List ℕ → List ℕ → ℕ → List Dump
-standing store places index = map (dump_at store) (drop index places)
+eqb_same : (a b : ℕ) → eqb a b ≡ eqb b a
+eqb_same a b = go (eqb b a) refl
+  where
+    go : (c : Bool) → eqb b a ≡ c → eqb a b ≡ c
+    go true e = eq-eqb a b (sym (eqb-true b a e))
+    go false e = ne_eqb a b (λ p. eqb-false b a e (sym p))
 
-module _ (store places : List ℕ) (n : ℕ) where
-  pub find-start : Noted store places → held (dumps_of store) n ≡ held (standing store places 0) n
-  find-start noted = ap (λ (ds : List Dump). held ds n) noted.dumps
+module _ (store : List ℕ) (n : ℕ) where
+  -- the test of the code: a place inside, and this number
+  abbrev pub numbered : ℕ → Bool
+  numbered at = ltb at (length store) && eqb (pair_at store (at + 1)) n
 
-  pub find_end : (index : ℕ) → length places ≤ index → none ≡ held (standing store places index) n
+  numbered_here : (at : ℕ) → DumpBegins store at → numbered at ≡ eqb n (dump_number (dump_at store at))
+  numbered_here at b = rw (lt-ltb at (length store) b.0, number_here store at b.0 b.1) (eqb_same (pair_at store (at + 1)) n)
+
+  found : (places : List ℕ) → ((i : ℕ) → i < length places → DumpBegins store (get_or places i 0))
+      → found_meaning store (find numbered places) ≡ held (map (dump_at store) places) n
   unfolding held
-  find_end index h = rw (drop_of_length-le places {i = index} h)
+  found [] b = refl
+  found (at ∷ places) b =
+      rw (numbered_here at (b 0 (omega arith)), ← found places (λ i h. b (suc i) (omega arith)))
+      (go (eqb n (dump_number (dump_at store at))))
+    where
+      go : (c : Bool) → found_meaning store (cond c (Some at) (find numbered places)) ≡ cond c (Some (dump_at store at)) (found_meaning store (find numbered places))
+      go true = refl
+      go false = refl
 
-  module _ (index : ℕ) where
-    abbrev at : ℕ
-    at = get_or places index 0
+  stands : (places : List ℕ) → ((i : ℕ) → i < length places → DumpBegins store (get_or places i 0)) → FoundDump store (find numbered places)
+  stands [] b = tt
+  stands (at ∷ places) b = go (stands places (λ i h. b (suc i) (omega arith))) (numbered at)
+    where
+      go : FoundDump store (find numbered places) → (c : Bool) → FoundDump store (cond c (Some at) (find numbered places))
+      go more true = b 0 (omega arith)
+      go more false = more
 
-    -- the test of the code: a place inside, and this number
-    abbrev test : Bool
-    test = ltb at (length store) && eqb (pair_at store (at + 1)) n
+  inside : (places : List ℕ) → FoundInside store (find numbered places)
+  inside [] = tt
+  inside (at ∷ places) = go (inside places) (numbered at) refl
+    where
+      go : FoundInside store (find numbered places) → (c : Bool) → numbered at ≡ c → FoundInside store (cond c (Some at) (find numbered places))
+      go more true e = ltb-true at (length store) (and-true (ltb at (length store)) (eqb (pair_at store (at + 1)) n) e).0
+      go more false e = more
 
-    pub test_inside : test ≡ true → at < length store
-    test_inside e = ltb-true at (length store) (and-true (ltb at (length store)) (eqb (pair_at store (at + 1)) n) e).0
+  pub finds : (places : List ℕ) → Finds store places n (find numbered places)
+  finds places =
+      record {
+        inside = inside places;
+        is = λ noted. found places noted.begin ∙ ap (λ (ds : List Dump). held ds n) (sym noted.dumps);
+        stands = λ noted. stands places noted.begin;
+      }
 
-    module _ (h : index < length places) (b : DumpBegins store (get_or places index 0)) where
-      same : {c : Bool} → test ≡ c → eqb (dump_number (dump_at store at)) n ≡ c
-      same e = ap (λ (k : ℕ). eqb k n) (number_here store at b.0 b.1) ∙ sym (ap (λ (t : Bool). t && eqb (pair_at store (at + 1)) n) (lt-ltb at (length store) b.0)) ∙ e
-
-      pub find_here : test ≡ true → some (dump_at store at) ≡ held (standing store places index) n
-      unfolding held
-      find_here e = rw (drop-cons places index 0 h, eq-eqb n (dump_number (dump_at store at)) (sym (eqb-true (dump_number (dump_at store at)) n (same e))))
-
-      pub find_past : test ≡ false → held (standing store places index) n ≡ held (standing store places (index + 1)) n
-      unfolding held
-      find_past e =
-          rw (drop-cons places index 0 h, ne_eqb n (dump_number (dump_at store at)) (λ p. eqb-false (dump_number (dump_at store at)) n (same e) (sym p)), add-one index)
+  pub finds_from : {places : List ℕ} {r : Option ℕ} → option_map (λ (at : ℕ). at) r ≡ find numbered places → Finds store places n r
+  finds_from {places} {r} e = rw (sym (same r) ∙ e) (finds places)
+    where
+      same : (r : Option ℕ) → option_map (λ (at : ℕ). at) r ≡ r
+      same None = refl
+      same (Some at) = refl

@@ -1,7 +1,6 @@
 -- The store of dumps (02, T-02 and T-13): its records, what may follow what, and the dumps that they make.
 -- Assumes nothing.
-use Rattle.std.specs.Prelude.{Bool, true, false, cond, not, ◌&&◌, ◌||◌, List, [], ◌∷◌, ◌++◌, map, ℕ, zero, suc, ◌-◌, eqb, ltb, leb, length, get_or, take}
-use Rattle.std.proofs.Math.Option.{Option, none, some}
+use Rattle.std.specs.Prelude.{Option, None, Some, Bool, true, false, cond, not, ◌&&◌, ◌||◌, List, [], ◌∷◌, ◌++◌, map, ℕ, zero, suc, ◌-◌, eqb, ltb, leb, length, get_or, take}
 use Rattle.refusal.specs.Answer.{Answer, gives, Verdict, ◌▷◌, guard}
 use Rattle.ump.specs.Word.{pair_at}
 use Rattle.ump.specs.Edits.{Patch, elem}
@@ -117,8 +116,8 @@ dumps_of store = dumps_in (records_of store)
 
 -- the dump held under a number
 unfoldable pub held : List Dump → ℕ → Option Dump
-held [] n = none
-held (d ∷ dumps) n = cond (eqb n (dump_number d)) (some d) (held dumps n)
+held [] n = None
+held (d ∷ dumps) n = cond (eqb n (dump_number d)) (Some d) (held dumps n)
 
 abbrev pub numbers_of : List Dump → List ℕ
 numbers_of dumps = map dump_number dumps

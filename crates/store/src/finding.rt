@@ -5,34 +5,19 @@ ghost use Rattle.store.specs.Meaning.{Finds};
 
 use crate::record::number_at;
 
-// Where a dump stands.
-#[derive(Drop)]
-pub enum Found {
-    At(usize),
-    Nothing,
-}
-
 // Whether the dump at a place has this number; past the end none stands.
 fn is_numbered(store: &[u8], at: usize, number: usize) -> bool
     ensures { result ≡ ltb at (length store.now) && eqb (pair_at store.now (at + 1)) number }
 {
-    if at >= store.len() {
-        return false;
-    }
-    number_at(store, at + 1) == number
+    at < store.len() && number_at(store, at + 1) == number
 }
 
 // The dump of this number, among those that stand at these places.
-pub fn find(store: &[u8], places: &[usize], number: usize) -> Found
+pub fn find(store: &[u8], places: &[usize], number: usize) -> Option<usize>
     ensures { Finds store.now places.now number result }
 {
-    let mut index = 0;
-    while index < places.len() {
-        let at = places[index];
-        if is_numbered(store, at, number) {
-            return Found::At(at);
-        }
-        index += 1;
-    }
-    Found::Nothing
+    places
+        .iter()
+        .copied()
+        .find(|at| is_numbered(store, *at, number))
 }

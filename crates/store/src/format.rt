@@ -2,68 +2,77 @@
 ghost use Rattle.std.specs.Prelude.{◌≡◌, ◌<◌, length};
 ghost use Rattle.store.specs.Store.{records_of, at_start, follows_by, allowed_by, fits, well_formed};
 ghost use Rattle.store.specs.Places.{record_at};
+ghost use Rattle.store.specs.Meaning.{kind_of};
 
-use crate::record::{
-    body_here, body_size, byte, is_data, is_delta, is_edit, is_whole, next, number_at,
-};
+use crate::record::{body_here, body_size, byte, next, number_at};
 
 // What may follow a record besides a dump: edits, no earlier than at `end`; data.
-#[derive(Clone, Copy)]
+#[derive(Clone, Copy, Debug, PartialEq, Eq)]
 pub struct Follow {
     pub edits: bool,
     pub bytes: bool,
     pub end: usize,
 }
 
-// What may follow a record of this kind; `to` is an edit's second number. Data and edits, which most records are, are looked for
-// first.
+// What a record is, by its kind.
+#[derive(Clone, Copy, Debug, PartialEq, Eq)]
+enum Kind {
+    Whole,
+    Delta,
+    Edit,
+    Data,
+    Other,
+}
+
+// What a record of this kind is: data and edits are looked for first.
+fn kind_of(kind: u8) -> Kind
+    ensures { result ≡ kind_of kind }
+{
+    match kind {
+        0x81..=0x8D => Kind::Data,
+        0x03 => Kind::Edit,
+        0x01 | 0x11 => Kind::Whole,
+        0x02 | 0x12 => Kind::Delta,
+        _ => Kind::Other,
+    }
+}
+
+// What may follow a record of this kind; `to` is an edit's second number.
 fn after(follow: Follow, kind: u8, to: usize) -> Follow
     ensures { result ≡ follows_by follow kind to }
 {
-    if is_data(kind) {
-        return follow;
-    }
-    if is_edit(kind) {
-        return Follow {
-            edits: true,
-            bytes: true,
-            end: to,
-        };
-    }
-    if is_whole(kind) {
-        return Follow {
+    match kind_of(kind) {
+        Kind::Whole => Follow {
             edits: false,
             bytes: true,
             end: 0,
-        };
-    }
-    if is_delta(kind) {
-        return Follow {
+        },
+        Kind::Delta => Follow {
             edits: true,
             bytes: false,
             end: 0,
-        };
+        },
+        Kind::Edit => Follow {
+            edits: true,
+            bytes: true,
+            end: to,
+        },
+        Kind::Data => follow,
+        Kind::Other => follow,
     }
-    follow
 }
 
 // Whether a record of this kind may stand here; `group` is a whole dump's, `from` an edit's first number.
 fn is_allowed(follow: Follow, kind: u8, group: u8, from: usize) -> bool
     ensures { result ≡ allowed_by follow kind group from }
 {
-    if is_data(kind) {
-        return follow.bytes;
+    match kind_of(kind) {
+        Kind::Whole => group < 16,
+        Kind::Delta => true,
+        Kind::Edit => follow.edits && follow.end <= from,
+        Kind::Data => follow.bytes,
+        Kind::Other => false,
     }
-    if is_edit(kind) {
-        if !follow.edits {
-            return false;
-        }
-        return follow.end <= from;
-    }
-    if is_whole(kind) {
-        return group < 16;
-    }
-    is_delta(kind)
 }
 
 // Whether the record at a place is whole and may stand here.
@@ -79,6 +88,7 @@ fn is_fit(store: &[u8], at: usize, follow: Follow) -> bool
 }
 
 // Whether the store is of this grammar.
+// A `while`: the step is a record's length, which its kind says.
 pub(crate) fn is_well_formed(store: &[u8]) -> bool
     ensures { result ≡ well_formed at_start (records_of store.now) }
 {

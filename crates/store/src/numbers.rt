@@ -6,14 +6,8 @@ ghost use Rattle.store.specs.Meaning.{Enters, Passed};
 use crate::flags::{flag, is_flagged};
 use crate::record::{is_dump, next, number_at};
 
-// How many dumps are passed, or that a number came again.
-#[derive(Drop)]
-pub(crate) enum Entered {
-    Count(usize),
-    Again,
-}
-
 // Stores a place at an index, where there is one.
+// By index: after a slice's `get_mut` a proof knows its length, and none of its elements.
 fn put(places: &mut [usize], index: usize, place: usize)
     ensures { places.new ≡ set places.old index place }
 {
@@ -29,36 +23,33 @@ fn enter_here(
     count: usize,
     used: &mut [u8],
     places: &mut [usize],
-) -> Entered
+) -> Option<usize>
     requires { (at < length store.now) × Entering store.now at count used.old places.old }
     ensures { Enters store.now at result used.new places.new }
 {
     if !is_dump(store[at]) {
-        return Entered::Count(count);
+        return Some(count);
     }
     let number = number_at(store, at + 1);
     if is_flagged(used, number) {
-        return Entered::Again;
+        return None;
     }
     flag(used, number);
     put(places, count, at);
-    Entered::Count(count + 1)
+    Some(count + 1)
 }
 
 // Passes all records, with no number used yet.
-pub(crate) fn enter(store: &[u8], used: &mut [u8], places: &mut [usize]) -> Entered
+// A `while`: the step is a record's length, which its kind says.
+pub(crate) fn enter(store: &[u8], used: &mut [u8], places: &mut [usize]) -> Option<usize>
     requires { used.old ≡ replicate 8192 0 }
     ensures { Passed store.now result places.new }
 {
     let mut count = 0;
     let mut at = 0;
     while at < store.len() {
-        let entered = enter_here(store, at, count, used, places);
-        let Entered::Count(passed) = entered else {
-            return Entered::Again;
-        };
-        count = passed;
+        count = enter_here(store, at, count, used, places)?;
         at = next(store, at);
     }
-    Entered::Count(count)
+    Some(count)
 }

@@ -8,53 +8,36 @@ ghost use Rattle.store.specs.Places.{Behind, HasBody};
 pub fn byte(store: &[u8], at: usize) -> u8
     ensures { result ≡ get_or store.now at 0 }
 {
-    if at < store.len() {
-        return store[at];
-    }
-    0
+    store.get(at).copied().unwrap_or(0)
 }
 
 // Whether a record of this kind begins a whole dump: 01, and 11 where the dump is not wanted any more.
+// Of the byte and no method of an enum, as for the kinds below: their public contracts speak of the byte.
 pub fn is_whole(kind: u8) -> bool
     ensures { result ≡ is_whole kind }
 {
-    if kind == 0x01 {
-        return true;
-    }
-    kind == 0x11
+    matches!(kind, 0x01 | 0x11)
 }
 
 // Whether a record of this kind begins a delta: 02, and 12 where it is not wanted any more.
 pub fn is_delta(kind: u8) -> bool
     ensures { result ≡ is_delta kind }
 {
-    if kind == 0x02 {
-        return true;
-    }
-    kind == 0x12
+    matches!(kind, 0x02 | 0x12)
 }
 
 // Whether a record of this kind begins a dump that is wanted.
 pub fn is_wanted(kind: u8) -> bool
     ensures { result ≡ is_wanted kind }
 {
-    if kind == 0x01 {
-        return true;
-    }
-    kind == 0x02
+    matches!(kind, 0x01 | 0x02)
 }
 
 // Whether a record of this kind begins a dump.
 pub fn is_dump(kind: u8) -> bool
     ensures { result ≡ is_dump kind }
 {
-    if kind > 0x12 {
-        return false;
-    }
-    if is_whole(kind) {
-        return true;
-    }
-    is_delta(kind)
+    matches!(kind, 0x01 | 0x02 | 0x11 | 0x12)
 }
 
 // Whether a record of this kind is an edit.
@@ -68,10 +51,7 @@ pub fn is_edit(kind: u8) -> bool
 pub fn is_data(kind: u8) -> bool
     ensures { result ≡ is_data kind }
 {
-    if kind < 0x81 {
-        return false;
-    }
-    kind <= 0x8D
+    matches!(kind, 0x81..=0x8D)
 }
 
 // The bytes after the kind.
@@ -79,12 +59,13 @@ pub fn body_size(kind: u8) -> usize
     ensures { (result ≡ body_size kind) × (result < 14) }
 {
     if is_data(kind) {
-        return kind as usize - 0x80;
+        return usize::from(kind - 0x80);
     }
     4
 }
 
 // The number of two bytes at a place, highest byte first; past the end stand zeros.
+// A reader by place: a store is one slice of records of several lengths, and a place may lie past its end.
 pub fn number_at(store: &[u8], at: usize) -> usize
     ensures { (result ≡ pair_at store.now at) × (result < 65536) }
 {
@@ -95,6 +76,7 @@ pub fn number_at(store: &[u8], at: usize) -> usize
 }
 
 // The place behind the record at a place; past the end no record stands, and the place stays.
+// The kind says a record's length, so who walks the records steps with a `while`: no range counts their places.
 pub fn next(store: &[u8], at: usize) -> usize
     ensures { Behind store.now at result }
 {
@@ -111,10 +93,5 @@ pub fn body_here(store: &[u8], at: usize) -> usize
     if at >= store.len() {
         return 0;
     }
-    let size = body_size(store[at]);
-    let left = store.len() - at - 1;
-    if left < size {
-        return left;
-    }
-    size
+    body_size(store[at]).min(store.len() - at - 1)
 }

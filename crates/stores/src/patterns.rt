@@ -1,157 +1,111 @@
-// Stores of many records, byte by byte.
+// Stores of many records: for each form of a store the byte at an index of it.
 
-// How a store is laid out: whole dumps without data, numbered from 0, or from 0 to 255 and again; deltas of the next number, 255 of 0;
-// deltas numbered from 1, each of the number below; a whole dump of six bytes and deltas numbered from 1, each of the number below with
-// its own number put in at 0; a whole dump 1 of full data records; a whole dump 1 without data and a delta 2 that puts them in. Of the
-// chain also: from this number down to 0; with the dumps below this number unwanted. And a star: a whole dump 0 without data, and deltas
-// of it, numbered from 1, or by even numbers alone.
-#[derive(Clone, Copy)]
-pub enum Pattern {
-    Wholes,
-    Again,
-    Ring,
-    Falling,
-    Chain,
-    Data,
-    EditData,
-    Down(usize),
-    Unwanted(usize),
-    Star,
-    Evens,
+// A whole dump without data, in group 0, with stream id 0.
+fn whole(number: usize) -> [u8; 5] {
+    let [high, low] = ((number % 65536) as u16).to_be_bytes();
+    [0x01, high, low, 0, 0]
 }
 
-// The higher and the lower byte of a number.
-fn high(number: usize) -> u8 {
-    (number / 256 % 256) as u8
+// A delta without edits.
+fn delta(number: usize, base: usize) -> [u8; 5] {
+    let [_, high, low, _, _] = whole(number);
+    let [_, base_high, base_low, _, _] = whole(base);
+    [0x02, high, low, base_high, base_low]
 }
 
-fn low(number: usize) -> u8 {
-    (number % 256) as u8
-}
-
-// The byte at an index of a whole dump in group 0, with stream id 0.
-fn whole_byte(number: usize, index: usize) -> u8 {
-    match index {
-        0 => 0x01,
-        1 => high(number),
-        2 => low(number),
-        _ => 0,
-    }
-}
-
-// The byte at an index of a delta.
-fn delta_byte(number: usize, base: usize, index: usize) -> u8 {
-    match index {
-        0 => 0x02,
-        1 => high(number),
-        2 => low(number),
-        3 => high(base),
-        _ => low(base),
-    }
-}
-
-// The byte at an index of the dump in a chain: 12 bytes each. A whole dump has six bytes of data, all 0, and a delta an edit of 0..0 by one
-// byte, its number's lower one.
-fn link_byte(number: usize, index: usize) -> u8 {
+// A dump in a chain: a whole one of six bytes, all 0, or a delta of the number below, with an edit of 0..0 by its own number's lower byte.
+fn link(number: usize) -> [u8; 12] {
     if number == 0 {
-        if index == 5 {
-            return 0x86;
-        }
-        return whole_byte(0, index);
+        return [0x01, 0, 0, 0, 0, 0x86, 0, 0, 0, 0, 0, 0];
     }
-    match index {
-        5 => 0x03,
-        6 | 7 | 8 | 9 => 0,
-        10 => 0x81,
-        11 => low(number),
-        _ => delta_byte(number, number - 1, index),
-    }
+    let [kind, high, low, base_high, base_low] = delta(number, number - 1);
+    [
+        kind, high, low, base_high, base_low, 0x03, 0, 0, 0, 0, 0x81, low,
+    ]
 }
 
-// The byte at an index of the chain from a number down to 0.
-fn down_byte(top: usize, index: usize) -> u8 {
-    let passed = index / 12;
-    if passed > top {
-        return 0;
-    }
-    link_byte(top - passed, index % 12)
-}
-
-// The byte at an index of the chain whose dumps below a number are unwanted.
-fn unwanted_byte(below: usize, index: usize) -> u8 {
-    let number = index / 12;
-    if index % 12 != 0 {
-        return link_byte(number, index % 12);
-    }
-    if number >= below {
-        return link_byte(number, 0);
-    }
-    if number == 0 { 0x11 } else { 0x12 }
-}
-
-// The byte at an index of the dump in a star.
-fn ray_byte(number: usize, index: usize) -> u8 {
+// A dump in a star: a whole one, or a delta of it.
+fn ray(number: usize) -> [u8; 5] {
     if number == 0 {
-        return whole_byte(0, index);
+        whole(0)
+    } else {
+        delta(number, 0)
     }
-    delta_byte(number, 0, index)
 }
 
-// The byte at an index of full data records, whose data counts up.
-fn data_byte(index: usize) -> u8 {
-    if index % 14 == 0 {
-        return 0x8D;
-    }
-    low(index)
-}
-
-// The byte at an index of whole dump 1 without data, delta 2 of it, and an edit of 0..0.
-fn edit_byte(index: usize) -> u8 {
-    if index < 5 {
-        return whole_byte(1, index);
-    }
-    if index < 10 {
-        return delta_byte(2, 1, index - 5);
-    }
-    if index == 10 {
-        return 0x03;
-    }
-    0
-}
-
-// The byte at an index of a store.
-fn byte_of(pattern: Pattern, index: usize) -> u8 {
-    let dump = index / 5;
-    match pattern {
-        Pattern::Wholes => whole_byte(dump, index % 5),
-        Pattern::Again => whole_byte(dump % 256, index % 5),
-        Pattern::Ring => delta_byte(dump, (dump + 1) % 256, index % 5),
-        Pattern::Falling => delta_byte(dump + 1, dump, index % 5),
-        Pattern::Chain => link_byte(index / 12, index % 12),
-        Pattern::Data => {
-            if index < 5 {
-                return whole_byte(1, index);
-            }
-            data_byte(index - 5)
+// These bytes, and full data records behind them, whose data counts up.
+fn data_behind(front: &[u8], index: usize) -> u8 {
+    match front.get(index) {
+        Some(byte) => *byte,
+        None => {
+            let at = index - front.len();
+            if at % 14 == 0 { 0x8D } else { (at % 256) as u8 }
         }
-        Pattern::EditData => {
-            if index < 15 {
-                return edit_byte(index);
-            }
-            data_byte(index - 15)
-        }
-        Pattern::Down(top) => down_byte(top, index),
-        Pattern::Unwanted(below) => unwanted_byte(below, index),
-        Pattern::Star => ray_byte(dump, index % 5),
-        Pattern::Evens => ray_byte(dump * 2, index % 5),
     }
 }
 
-// Fills a store.
-pub fn fill(store: &mut [u8], pattern: Pattern) {
-    let mut index = 0;
-    while index < store.len() {
-        store[index] = byte_of(pattern, index);
-        index += 1;
+// Whole dumps, numbered from 0.
+pub fn wholes(index: usize) -> u8 {
+    whole(index / 5)[index % 5]
+}
+
+// Whole dumps, numbered from 0 to 255 and again.
+pub fn wholes_again(index: usize) -> u8 {
+    whole(index / 5 % 256)[index % 5]
+}
+
+// Deltas of the next number, 255 of 0.
+pub fn ring(index: usize) -> u8 {
+    delta(index / 5, (index / 5 + 1) % 256)[index % 5]
+}
+
+// Deltas numbered from 1, each of the number below.
+pub fn falling(index: usize) -> u8 {
+    delta(index / 5 + 1, index / 5)[index % 5]
+}
+
+// A chain from number 0 up.
+pub fn chain(index: usize) -> u8 {
+    link(index / 12)[index % 12]
+}
+
+// A chain from a number down to 0.
+pub fn chain_down(top: usize, index: usize) -> u8 {
+    match top.checked_sub(index / 12) {
+        Some(number) => link(number)[index % 12],
+        None => 0,
     }
+}
+
+// A chain from number 0 up, whose dumps below a number are unwanted.
+pub fn chain_unwanted(below: usize, index: usize) -> u8 {
+    let byte = chain(index);
+    if index % 12 == 0 && index / 12 < below {
+        byte | 0x10
+    } else {
+        byte
+    }
+}
+
+// A star of deltas of 0, numbered from 1.
+pub fn star(index: usize) -> u8 {
+    ray(index / 5)[index % 5]
+}
+
+// A star of deltas of 0 with even numbers alone.
+pub fn star_of_evens(index: usize) -> u8 {
+    ray(index / 5 * 2)[index % 5]
+}
+
+// A whole dump 1 of full data records.
+pub fn data(index: usize) -> u8 {
+    data_behind(b"\x01\x00\x01\x00\x00", index)
+}
+
+// A whole dump 1, and a delta 2 of it that puts full data records in at 0.
+pub fn edit_data(index: usize) -> u8 {
+    data_behind(
+        b"\x01\x00\x01\x00\x00\x02\x00\x02\x00\x01\x03\x00\x00\x00\x00",
+        index,
+    )
 }

@@ -8,10 +8,15 @@ use native.Mathlib.Omega.{arith}
 use lib.Dec.{ltb}
 use lib.ListN.{length, get_or, take, drop}
 use lib.Seq.{take_all, take-add, drop-cons, length-take-le}
+use native.Mathlib.Numerals.{add-one, one-add}
+use Rattle.std.specs.Prelude.{Some, None}
+use Rattle.std.specs.List.{position, position_or_len}
+use Rattle.std.proofs.lemmas.List.Recursion.{is_position_or_len}
+use Rattle.refusal.specs.Answer.{gives, refused}
 use borrow.Author.Tests.{lt-ltb, le-ltb}
 use Rattle.ump.specs.Stream.{real_time, bad_byte, without_real_time, first_bad}
-use Rattle.ump.proofs.First.{Side, under, over, side, first_suc}
-use Rattle.stream.specs.Steps.{count_below}
+use Rattle.ump.proofs.First.{Side, under, over, side, first_none, first_suc}
+use Rattle.stream.specs.Steps.{count_below, sized}
 
 -- the first bytes of a list are counted
 pub record Counted (bytes : List ℕ) (limit at number : ℕ) : Type 0 where
@@ -19,7 +24,7 @@ pub record Counted (bytes : List ℕ) (limit at number : ℕ) : Type 0 where
   pub so_far : number ≡ count_below limit (take at bytes)
 
 module _ (limit : ℕ) where
-  count-append : (xs ys : List ℕ) → count_below limit (xs ++ ys) ≡ count_below limit xs + count_below limit ys
+  pub count-append : (xs ys : List ℕ) → count_below limit (xs ++ ys) ≡ count_below limit xs + count_below limit ys
   count-append [] ys = omega arith
   count-append (x ∷ xs) ys = go (ltb x limit) (count-append xs ys)
     where
@@ -29,7 +34,7 @@ module _ (limit : ℕ) where
       go true h = omega arith
       go false h = h
 
-  count_most : (xs : List ℕ) → count_below limit xs ≤ length xs
+  pub count_most : (xs : List ℕ) → count_below limit xs ≤ length xs
   count_most [] = omega arith
   count_most (x ∷ xs) = go (ltb x limit) (count_most xs)
     where
@@ -110,3 +115,35 @@ sorted (x ∷ xs) = go (kind x) (sorted xs) (first_suc (λ i. bad_byte (get_or (
           one_bad = λ h. rw (w, g) (omega (arith, s.one_bad (rw (e, r) at h)));
           none_bad = λ h. rw (w, g) (omega (arith, s.none_bad (rw (e, r) at h)));
         }
+
+-- ---- the size, or the first that is bad
+
+place_is : (xs : List ℕ) → first_bad bad_byte xs ≡ position_or_len bad_byte xs
+place_is = is_position_or_len (first_bad bad_byte) bad_byte (first_none (λ i. bad_byte (get_or [] i 0)) 0 (λ j h. absurd (omega arith)))
+    (λ x xs. first_suc (λ i. bad_byte (get_or (x ∷ xs) i 0)) (length xs) ∙ ap (cond (bad_byte x) 0) (sym (one-add _)))
+
+module _ (xs : List ℕ) where
+  size_where : length xs ≤ first_bad bad_byte xs → sized xs ≡ gives (length (without_real_time xs))
+  size_where h = rw (le-ltb _ _ h)
+
+  pub size_fits : length (without_real_time xs) ≤ count_below 0x80 xs → sized xs ≡ gives (length (without_real_time xs))
+  size_fits h = size_where ((sorted xs).none_bad h)
+
+  found : (b : Bool) → ltb (first_bad bad_byte xs) (length xs) ≡ b → position bad_byte xs ≡ cond b (Some (first_bad bad_byte xs)) None
+  found b e = rw (← place_is xs, e)
+
+  pub size_none : position bad_byte xs ≡ None → sized xs ≡ gives (length (without_real_time xs))
+  size_none e = go (side (first_bad bad_byte xs) (length xs))
+    where
+      go : Side (first_bad bad_byte xs) (length xs) → sized xs ≡ gives (length (without_real_time xs))
+      go (under h t) = absurd (let k = found true t in cc)
+      go (over h t) = size_where h
+
+  pub size_some : (i : ℕ) → position bad_byte xs ≡ Some i → sized xs ≡ refused 18 (i + 1)
+  size_some i e = go (side (first_bad bad_byte xs) (length xs))
+    where
+      go : Side (first_bad bad_byte xs) (length xs) → sized xs ≡ refused 18 (i + 1)
+      go (under h t) =
+          let k : first_bad bad_byte xs ≡ i = (let k = found true t in cc) in
+          rw (t, k, add-one)
+      go (over h t) = absurd (let k = found false t in cc)

@@ -1,10 +1,10 @@
 -- What is said of real-time bytes, over the promise of the library's call. Assumes nothing.
+use Rattle.std.specs.Prelude.{Ok}
 use mathlib.Core.Path.{refl, sym}
 use mathlib.Core.List.{[]}
 use Rattle.refusal.specs.Tight.{lent, lent_mut}
 use Rattle.ump.specs.RealTime.{PassesOver, PromisedWriter}
 use Rattle.ump.proofs.RealTime as laws
-use Rattle.stream.specs.declared.Written.TheVariants.{Words}
 use Rattle.stream.proofs.Writer.{Writes}
 
 promised : PromisedWriter Writes
@@ -16,7 +16,7 @@ promised =
       can_answer = λ bytes group words n left e. record {
         lifetimes = ([], ([], tt));
         arguments = (lent bytes, (group, (lent_mut words, tt)));
-        said = Words n;
+        said = Ok n;
         exit = (lent bytes, (group, (lent_mut left, tt)));
         promise = sym e;
         given = (refl, refl, refl);

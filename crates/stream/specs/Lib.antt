@@ -1,3 +1,2 @@
 -- What the answer of this crate means, and what its steps read.
-pub mod Meaning
 pub mod Steps

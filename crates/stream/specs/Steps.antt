@@ -1,10 +1,11 @@
 -- What is counted in a stream, and what the steps of writing the packets read.
 -- Assumes nothing.
 use Rattle.std.specs.Prelude.{◌≡◌, cond, List, [], ◌∷◌, ◌++◌, ℕ, suc, ◌+◌, ◌-◌, ◌*◌, ◌/◌, ◌%◌, ◌^◌, ◌<◌, ltb, length, drop}
+use Rattle.refusal.specs.Answer.{Answer, gives, ◌▷◌, guard}
 use Rattle.ump.specs.Word.{pair_at}
 use Rattle.ump.specs.Packet.{sysex7}
 use Rattle.ump.specs.Packing.{packets_for, pack}
-use Rattle.ump.specs.Stream.{without_real_time}
+use Rattle.ump.specs.Stream.{bad_byte, without_real_time, first_bad}
 use Rattle.flow.specs.Digits.{val}
 
 -- the data that stands from a position on
@@ -15,6 +16,12 @@ onward inner at = without_real_time (drop at inner)
 abbrev pub count_below : ℕ → List ℕ → ℕ
 count_below limit [] = 0
 count_below limit (byte ∷ bytes) = cond (ltb byte limit) (suc (count_below limit bytes)) (count_below limit bytes)
+
+-- the size of the data; Byte, behind the first byte that is bad, if one is
+abbrev pub sized : List ℕ → Answer ℕ
+sized inner =
+    let at = first_bad bad_byte inner in
+    guard (ltb at (length inner)) 18 (suc at) ▷ gives (length (without_real_time inner))
 
 -- four bytes that stand at a position, as octets (two: pair_at)
 abbrev pub four_at : List ℕ → ℕ → ℕ

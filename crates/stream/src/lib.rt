@@ -2,55 +2,34 @@
 #![tactic(auto)]
 
 ghost use Rattle.std.specs.Prelude.{◌≡◌, ◌+◌, ◌-◌, ◌*◌, ◌≤◌, ◌<◌, min, length, set};
-ghost use Rattle.refusal.specs.Answer.{refused};
-ghost use Rattle.refusal.specs.Number.{number_of};
+ghost use Rattle.std.specs.List.{position};
 ghost use Rattle.ump.specs.Word.{pair_at};
-ghost use Rattle.ump.specs.Stream.{bad_frame, bad_byte, without_real_time, first_bad, to_sysex7};
-ghost use Rattle.stream.specs.Meaning.{written_meaning};
-ghost use Rattle.stream.specs.Steps.{onward, count_below, four_at, head_word, Took, TookSix, Filled, Sized, with_packets};
+ghost use Rattle.ump.specs.Stream.{bad_frame, bad_byte, without_real_time, to_sysex7};
+ghost use Rattle.stream.specs.Steps.{onward, count_below, four_at, head_word, Took, TookSix, Filled, Sized, sized, with_packets};
+ghost use Rattle.refusal.specs.Meaning.{answer_of};
 
 use refusal::{Fault, Refusal};
 
-// The words written, or the refusal.
-#[derive(Drop)]
-pub enum Written {
-    Words(usize),
-    Refused(Fault),
-}
-
 // Data bytes as octets of a number, and the position behind them.
-#[derive(Drop)]
+#[derive(Clone, Copy, Debug, PartialEq, Eq)]
 struct Taken {
     octets: u64,
     next: usize,
 }
 
 // Data bytes as octets of a packet's two words, and the position behind them.
-#[derive(Drop)]
+#[derive(Clone, Copy, Debug, PartialEq, Eq)]
 struct Six {
     high: u32,
     low: u32,
     next: usize,
 }
 
-// A refusal with its place, as the answer.
-fn refuse(refusal: Refusal, place: usize) -> Written
-    ensures { written_meaning result ≡ refused (number_of refusal) place }
-{
-    Written::Refused(Fault { refusal, place })
-}
-
 // Whether the stream is under 2 bytes, its first not F0 or its last not F7.
 fn bad_frame(bytes: &[u8]) -> bool
     ensures { result ≡ bad_frame bytes.now }
 {
-    if bytes.len() < 2 {
-        return true;
-    }
-    if bytes[0] != 0xF0 {
-        return true;
-    }
-    bytes[bytes.len() - 1] != 0xF7
+    bytes.len() < 2 || bytes[0] != 0xF0 || bytes[bytes.len() - 1] != 0xF7
 }
 
 // How many of at most 255 bytes are below a limit.
@@ -59,12 +38,10 @@ fn count_few(bytes: &[u8], limit: u8) -> u8
     ensures { result ≡ count_below limit bytes.now }
 {
     let mut number = 0;
-    let mut at = 0;
-    while at < bytes.len() {
-        if bytes[at] < limit {
+    for byte in bytes {
+        if *byte < limit {
             number += 1;
         }
-        at += 1;
     }
     number
 }
@@ -73,44 +50,40 @@ fn count_few(bytes: &[u8], limit: u8) -> u8
 fn count_below(bytes: &[u8], limit: u8) -> usize
     ensures { result ≡ count_below limit bytes.now }
 {
-    if bytes.len() < 192 {
-        return count_few(bytes, limit) as usize;
-    }
     let mut number = 0;
-    let mut at = 0;
-    while bytes.len() - at > 192 {
-        let next = at + 192;
-        number += count_few(&bytes[at..next], limit) as usize;
-        at = next;
+    for part in bytes.chunks(192) {
+        number += count_few(part, limit) as usize;
     }
-    number + count_few(&bytes[at..], limit) as usize
+    number
 }
 
-// The data size: how many bytes are no real-time bytes, given how many are below 80 hex.
-fn data_size(inner: &[u8], septets: usize) -> usize
-    requires { septets ≡ count_below 0x80 inner.now }
-    ensures { result ≡ length (without_real_time inner.now) }
+// The index of the first byte of 80 to F7 hex.
+fn first_bad(inner: &[u8]) -> Option<usize>
+    ensures { result ≡ position bad_byte inner.now }
 {
+    inner.iter().position(|byte| *byte > 0x7F && *byte <= 0xF7)
+}
+
+// The data size, how many bytes are no real-time bytes; Byte at the first of 80 to F7 hex, by its place behind F0. It is looked for only
+// where fewer bytes are below 80 hex than are data.
+fn data_size(inner: &[u8]) -> Result<usize, Fault>
+    ensures { answer_of result ≡ sized inner.now }
+{
+    let septets = count_below(inner, 0x80);
     if septets == inner.len() {
-        return septets;
+        return Ok(septets);
     }
-    count_below(inner, 0xF8)
-}
-
-// The index of the first byte of 80 to F7 hex; the number of bytes if there is none.
-fn first_bad(inner: &[u8]) -> usize
-    ensures { result ≡ first_bad bad_byte inner.now }
-{
-    let mut at = 0;
-    while at < inner.len() {
-        if inner[at] > 0x7F {
-            if inner[at] <= 0xF7 {
-                return at;
-            }
-        }
-        at += 1;
+    let size = count_below(inner, 0xF8);
+    if septets == size {
+        return Ok(size);
     }
-    at
+    match first_bad(inner) {
+        Some(index) => Err(Fault {
+            refusal: Refusal::Byte,
+            place: index + 1,
+        }),
+        None => Ok(size),
+    }
 }
 
 // The first word of a packet without its bytes: type 3 and group, status and count.
@@ -129,6 +102,7 @@ fn take_bytes(inner: &[u8], at: usize, count: usize) -> Taken
     let mut octets: u64 = 0;
     let mut taken = 0;
     let mut next = at;
+    // By hand: the answer is the position behind the last byte taken, which an iterator that takes data bytes alone does not tell.
     while taken < count {
         let byte = inner[next];
         if byte < 0xF8 {
@@ -205,44 +179,38 @@ fn write_packets(inner: &[u8], size: usize, group: u8, packets: usize, words: &m
     let last = packets - 1;
     let mut head = head_word(group, 1, 6);
     let mut at = 0;
-    let mut packet = 0;
-    while packet < last {
+    for packet in 0..last {
         let six = take_six(inner, at, 6);
         put(words, packet, head + six.high, six.low);
         head = head_word(group, 2, 6);
         at = six.next;
-        packet += 1;
     }
-    let count = size - 6 * packet;
+    let count = size - 6 * last;
     let six = take_six(inner, at, count);
     let head = head_word(group, layout::status_for(packets, last), count);
-    put(words, packet, head + six.high, six.low);
+    put(words, last, head + six.high, six.low);
 }
 
 // F0, data, F7 and a group become SysEx7 packets in the words lent; answers the words written. Real-time bytes F8 to FF between F0 and F7
 // are passed over. Refuses in the order Long, Field, Frame, Byte, Room.
-pub fn to_sysex7(bytes: &[u8], group: u8, words: &mut [u32]) -> Written
-    ensures { (written_meaning result, words.new) ≡ to_sysex7 bytes.now group words.old }
+pub fn to_sysex7(bytes: &[u8], group: u8, words: &mut [u32]) -> Result<usize, Fault>
+    ensures { (answer_of result, words.new) ≡ to_sysex7 bytes.now group words.old }
 {
     if words.len() > layout::MOST_WORDS {
-        return refuse(Refusal::Long, 0);
+        return Err(Refusal::Long.into());
     }
     if group > 15 {
-        return refuse(Refusal::Field, 0);
+        return Err(Refusal::Field.into());
     }
     if bad_frame(bytes) {
-        return refuse(Refusal::Frame, 0);
+        return Err(Refusal::Frame.into());
     }
     let inner = &bytes[1..bytes.len() - 1];
-    let septets = count_below(inner, 0x80);
-    let size = data_size(inner, septets);
-    if septets < size {
-        return refuse(Refusal::Byte, first_bad(inner) + 1);
-    }
-    let packets = layout::sysex7_packets(size);
+    let size = data_size(inner)?;
+    let packets = layout::packets_for::<layout::Sysex7>(size);
     if words.len() / 2 < packets {
-        return refuse(Refusal::Room, 0);
+        return Err(Refusal::Room.into());
     }
     write_packets(inner, size, group, packets, words);
-    Written::Words(2 * packets)
+    Ok(2 * packets)
 }

@@ -1,39 +1,22 @@
 // Samples of byte streams without real-time bytes, and what all samples use.
-use compare::is_fault;
-use equality::words::same_words;
-use stream::Written;
+use refusal::{Fault, Refusal};
 
 // This stream in group 0 becomes so many words, and leaves the words expected.
 pub(crate) fn writes(bytes: &[u8], words: &mut [u32], length: usize, expected: &[u32]) -> bool {
-    let written = stream::to_sysex7(bytes, 0, words);
-    let Written::Words(count) = written else {
-        return false;
-    };
-    if count != length {
-        return false;
-    }
-    same_words(words, expected)
+    stream::to_sysex7(bytes, 0, words) == Ok(length) && &*words == expected
 }
 
 // This stream is refused so, and the words stay.
-pub(crate) fn refuses(bytes: &[u8], number: u8, place: usize) -> bool {
-    let mut words = [9u32, 9];
-    let written = stream::to_sysex7(bytes, 0, &mut words);
-    let Written::Refused(fault) = written else {
-        return false;
-    };
-    if !is_fault(fault, number, place) {
-        return false;
-    }
-    same_words(&words, &[9, 9])
+pub(crate) fn refuses(bytes: &[u8], refusal: Refusal, place: usize) -> bool {
+    let mut words = [9, 9];
+    stream::to_sysex7(bytes, 0, &mut words) == Err(Fault { refusal, place }) && words == [9, 9]
 }
 
 // F0 01..07 F7, group 0: 30160102 03040506 30310700 0; the word behind stays.
 pub(crate) fn p12() -> bool {
-    let mut words = [9u32, 9, 9, 9, 9];
     writes(
         b"\xF0\x01\x02\x03\x04\x05\x06\x07\xF7",
-        &mut words,
+        &mut [9; 5],
         4,
         &[0x3016_0102, 0x0304_0506, 0x3031_0700, 0, 9],
     )
@@ -41,16 +24,15 @@ pub(crate) fn p12() -> bool {
 
 // F0 F7: 30000000 0.
 pub(crate) fn no_data() -> bool {
-    let mut words = [9u32, 9];
-    writes(b"\xF0\xF7", &mut words, 2, &[0x3000_0000, 0])
+    writes(b"\xF0\xF7", &mut [9; 2], 2, &[0x3000_0000, 0])
 }
 
 // One byte F0: 17.
 pub(crate) fn one_byte() -> bool {
-    refuses(b"\xF0", 17, 0)
+    refuses(b"\xF0", Refusal::Frame, 0)
 }
 
 // F0 90 F7: 18 at 1.
 pub(crate) fn high_byte() -> bool {
-    refuses(b"\xF0\x90\xF7", 18, 1)
+    refuses(b"\xF0\x90\xF7", Refusal::Byte, 1)
 }

@@ -1,4 +1,5 @@
 pub mod Fields
+pub mod Masks
 pub mod Words
 pub mod Fronts
 pub mod Joined

@@ -12,14 +12,10 @@ pub returns-then-packet-eq0 : goal.returns-then-packet-eq0
 unfolding status_for
 returns-then-packet-eq0 c = sym (place_begin 0 1 2 3 _ c.args.packet c.if-packets-eq1.false c.if-packet-eq0.true)
 
-pub returns-then-packet-packets : goal.returns-then-packet-packets
+pub returns-then-saturating_sub-eq1 : goal.returns-then-saturating_sub-eq1
 unfolding status_for
-returns-then-packet-packets c = sym (place_inner 0 1 2 3 _ _ c.if-packets-eq1.false c.if-packet-eq0.false (λ e. omega arith))
+returns-then-saturating_sub-eq1 c = sym (place_last 0 1 2 3 _ _ c.if-packets-eq1.false c.if-packet-eq0.false (omega arith))
 
-pub returns-then-packet-packets-2 : goal.returns-then-packet-packets-2
+pub returns-else-saturating_sub-eq1 : goal.returns-else-saturating_sub-eq1
 unfolding status_for
-returns-then-packet-packets-2 c = sym (place_last 0 1 2 3 _ _ c.if-packets-eq1.false c.if-packet-eq0.false (omega arith))
-
-pub returns-else-packet-packets-2 : goal.returns-else-packet-packets-2
-unfolding status_for
-returns-else-packet-packets-2 c = sym (place_inner 0 1 2 3 _ _ c.if-packets-eq1.false c.if-packet-eq0.false (omega arith))
+returns-else-saturating_sub-eq1 c = sym (place_inner 0 1 2 3 _ _ c.if-packets-eq1.false c.if-packet-eq0.false (λ e. omega arith))

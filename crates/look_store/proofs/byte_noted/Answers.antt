@@ -1,5 +1,6 @@
 -- `look_store::byte_noted`: what measuring says, then the byte. Assumes nothing.
 use Rattle.std.proofs.Common.{◌≡◌, ◌∙◌, ap, List, ℕ, suc, ◌+◌, length, arith}
+use Rattle.std.proofs.lemmas.Result.{err_from_is_err_and}
 use Rattle.store.specs.Store.{dumps_of}
 use Rattle.store.specs.Places.{Noted}
 use Rattle.store.proofs.Checks.{noted_count}
@@ -16,20 +17,23 @@ counted store places noted n i =
     let same : length places + 1 ≡ suc (length (dumps_of store)) = omega (arith, noted_count store places noted) in
     ap (λ (k : ℕ). byte_found (restored unlimited (dumps_of store) k n) i) same
 
-pub returns-in-Refused : goal.returns-in-Refused
-returns-in-Refused c =
-    found_refused c.args.position (c.measure-measured.ensures.refuses _ c.in-Refused.is)
-    ∙ counted c.args.store.now c.args.places.now c.requires.noted c.args.number c.args.position
+pub returns-in_err-extent : goal.returns-in_err-extent
+returns-in_err-extent c =
+    let p = err_from_is_err_and c.from_residual.result c.from_residual.ensures.1 in
+    rw (p.1, p.2)
+    (found_refused c.args.position (c.measure.ensures.refuses _ c.in_err-extent.was)
+    ∙ counted c.args.store.now c.args.places.now c.requires.noted c.args.number c.args.position)
 
 pub returns-then-extent-position : goal.returns-then-extent-position
 returns-then-extent-position c =
-    let below = c.measure-measured.ensures.dump _ c.in-Dump.is in
-    found_past c.args.position below.is (omega (arith, c.if-extent-position.true, below.size))
-    ∙ counted c.args.store.now c.args.places.now c.requires.noted c.args.number c.args.position
+    let below = c.measure.ensures.dump _ c.in_ok-extent.was in
+    rw c.into.ensures
+    (found_past c.args.position below.is (omega (arith, c.if-extent-position.true, below.size))
+    ∙ counted c.args.store.now c.args.places.now c.requires.noted c.args.number c.args.position)
 
 pub locate-requires : goal.locate-requires
 locate-requires c =
-    let below = c.measure-measured.ensures.dump _ c.in-Dump.is in
+    let below = c.measure.ensures.dump _ c.in_ok-extent.was in
     record {
       noted = c.requires.noted;
       good = c.requires.good;
@@ -38,8 +42,8 @@ locate-requires c =
       inside = omega (arith, c.if-extent-position.false, below.size);
     }
 
-pub returns-else-extent-position : goal.returns-else-extent-position
-returns-else-extent-position c =
-    let below = c.measure-measured.ensures.dump _ c.in-Dump.is in
+pub returns : goal.returns
+returns c =
+    let below = c.measure.ensures.dump _ c.in_ok-extent.was in
     found_given c.args.position below.is (omega (arith, c.if-extent-position.false, below.size)) (c.locate.ensures.is below.payload below.is)
     ∙ counted c.args.store.now c.args.places.now c.requires.noted c.args.number c.args.position

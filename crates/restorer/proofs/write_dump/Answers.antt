@@ -5,7 +5,7 @@ use Rattle.listing.proofs.Loading.{handed-fits}
 use Rattle.restorer.proofs.write_dump.Goals as goal
 
 pub slice_bounds-write_all-end : goal.slice_bounds-write_all-end
-slice_bounds-write_all-end g c = handed-fits _ _ _ _ c.in-Text.ensures
+slice_bounds-write_all-end g c = handed-fits _ _ _ _ c.in-Ok.ensures
 
 pub slice_bounds-write_all-end-2 : goal.slice_bounds-write_all-end-2
-slice_bounds-write_all-end-2 g c = sym (length-take-le _ _ (handed-fits _ _ _ _ c.in-Text.ensures))
+slice_bounds-write_all-end-2 g c = sym (length-take-le _ _ (handed-fits _ _ _ _ c.in-Ok.ensures))

@@ -1,5 +1,5 @@
 -- Assumes nothing.
-use Rattle.std.proofs.Common.{◌-◌, ◌≤◌, ◌<◌}
+use Rattle.std.proofs.Common.{◌<◌}
 use Rattle.ump.specs.Stream.{without_real_time}
 use Rattle.stream.specs.Steps.{onward}
 use Rattle.stream.proofs.Writing.{Wrote, Led}
@@ -7,9 +7,6 @@ use Rattle.stream.proofs.write_packets.Given as goal
 
 abbrev pub invariant-loop-packet : goal.invariant-loop-packet
 invariant-loop-packet l =
-    (l.packet ≤ l.last) × (l.head < 0x40000000)
+    (l.head < 0x40000000)
     × Wrote l.group (without_real_time l.inner) l.initial.words l.words (onward l.inner l.at) l.packet
     × Led l.group l.packets l.packet l.head
-
-abbrev pub decreases-loop-packet : goal.decreases-loop-packet
-decreases-loop-packet l = l.last - l.packet

@@ -26,11 +26,8 @@ pub loop-index-preserved : goal.loop-index-preserved
 loop-index-preserved c =
     turn_on c.loop-index.invariant c.loop-index-test.true c.edit_at-edit.ensures (sym c.if-is_out.false ∙ c.is_out.ensures)
 
-pub returns-then-left-ne0 : goal.returns-then-left-ne0
-returns-then-left-ne0 c = turn_over c.loop-index.invariant c.loop-index-test.false c.if-left-ne0.true
+pub returns-then-left-eq0 : goal.returns-then-left-eq0
+returns-then-left-eq0 c = turn_done c.loop-index.invariant c.loop-index-test.false c.if-numbers-ne0.false c.if-left-eq0.true
 
-pub overflow_add-result : goal.overflow_add-result
-overflow_add-result c = let t = c.loop-index.invariant in omega (arith, t.few, t.small)
-
-pub returns : goal.returns
-returns c = turn_done c.loop-index.invariant c.loop-index-test.false c.if-numbers-ne0.false c.if-left-ne0.false
+pub returns-else-left-eq0 : goal.returns-else-left-eq0
+returns-else-left-eq0 c = turn_over c.loop-index.invariant c.loop-index-test.false c.if-left-eq0.false

@@ -1,10 +1,6 @@
 -- `edit::listed::cut_found`: all edits passed are in turn. Assumes nothing.
-use Rattle.std.proofs.Common.{◌-◌}
 use Rattle.edit.proofs.Lists.{Turn}
 use Rattle.edit.proofs.listed.cut_found.Given as goal
 
 abbrev pub invariant-loop-index : goal.invariant-loop-index
 invariant-loop-index l = Turn l.numbers l.size l.bytes l.left l.end l.cut l.index
-
-abbrev pub decreases-loop-index : goal.decreases-loop-index
-decreases-loop-index l = l.count - l.index

@@ -1,5 +1,6 @@
 -- `edit::origins::origin`: the check, then an octet of a message that passed. Assumes nothing.
 use Rattle.std.proofs.Common.{sym}
+use Rattle.std.proofs.lemmas.Result.{err_from_is_err_and}
 use Rattle.ump.specs.Packet.{sysex8}
 use Rattle.ump.proofs.Asking.{asked_refused}
 use Rattle.message.proofs.Checked.{taken, not_taken}
@@ -7,9 +8,10 @@ use Rattle.edit.proofs.AtOnceCases.{checks_refused}
 use Rattle.edit.proofs.origins.origin.Goals as goal
 
 pub origin_checked-requires : goal.origin_checked-requires
-origin_checked-requires c = let m = taken sysex8 _ _ (sym c.in-Message.ensures) in record { passes = m.passes; sized = m.sized }
+origin_checked-requires c = let m = taken sysex8 _ _ (sym c.in_ok-message.ensures) in record { passes = m.passes; sized = m.sized }
 
-pub returns-in-Refused : goal.returns-in-Refused
-returns-in-Refused c =
-    asked_refused _ _ _ _ _ _
-    (checks_refused _ _ c.args.numbers.now c.args.bytes.now (not_taken sysex8 _ _ (sym c.in-Refused.ensures)))
+pub returns-in_err-message : goal.returns-in_err-message
+returns-in_err-message c =
+    let p = err_from_is_err_and c.from_residual.result c.from_residual.ensures.1 in
+    rw (p.1, p.2)
+    (asked_refused _ _ _ _ _ _ (checks_refused _ _ c.args.numbers.now c.args.bytes.now (not_taken sysex8 _ _ (sym c.in_err-message.ensures))))

@@ -1,27 +1,32 @@
 -- `edit::placing::place`: why the list is refused, or where the byte stands. Assumes nothing.
-use Rattle.std.proofs.Common.{ap, ◌∙◌, arith}
-use Rattle.refusal.specs.Meaning.{fault_of}
-use Rattle.edit.proofs.Lists.{list_passes, cut_none, cut_some}
+use Rattle.std.proofs.Common.{◌≡◌}
+use Rattle.std.proofs.lemmas.Result.{err_from_is_err_and}
+use Rattle.refusal.specs.declared.Refusal.TheVariants.{Range}
 use Rattle.edit.proofs.Walking.{placed_refused, placed_dump, placed_edit, placed_past}
 use Rattle.edit.proofs.placing.place.Goals as goal
 
-pub returns-then-found-eq0 : goal.returns-then-found-eq0
-returns-then-found-eq0 c = placed_refused _ _ _ _ (c.why.ensures (cut_none _ _ _ c.cut_found-found.ensures c.if-found-eq0.true))
+pub returns-in_err-edits : goal.returns-in_err-edits
+returns-in_err-edits c =
+    let p = err_from_is_err_and c.from_residual.result c.from_residual.ensures.1 in
+    rw (p.1, p.2) (placed_refused _ _ _ _ c.in_err-edits.ensures.err)
 
-pub find_byte-stands-requires : goal.find_byte-stands-requires
-find_byte-stands-requires c =
-    let l = list_passes _ _ _ (cut_some _ _ _ c.cut_found-found.ensures c.if-found-eq0.false).0 in
-    (l.good, l.apart, omega (arith, l.all-bytes))
+pub returns-in_err-at : goal.returns-in_err-at
+returns-in_err-at c =
+    let e = c.in_ok-edits.ensures.ok in
+    let p = err_from_is_err_and c.from_residual-in_err-at.result c.from_residual-in_err-at.ensures.1 in
+    let v = rw c.in_err-at.ensures.ok_part at c.in_err-at.ensures.value in
+    let q : c.in_err-at.field-0.0 ≡ Range = cc in
+    rw (p.1, p.2, q)
+    (rw (e.0, e.1.0, e.1.1) at (placed_past _ _ _ _ c.in_ok-edits.edits.passed (rw c.in_err-at.ensures.ok_part at c.find_byte.ensures)))
 
 pub returns-in-Dump : goal.returns-in-Dump
 returns-in-Dump c =
-    placed_dump _ _ _ _ (cut_some _ _ _ c.cut_found-found.ensures c.if-found-eq0.false).0 c.in-Dump.ensures
+    let e = c.in_ok-edits.ensures.ok in
+    rw (e.0, e.1.0, e.1.1) at
+    (placed_dump _ _ _ _ c.in_ok-edits.edits.passed (rw (c.in_ok-at.ensures.ok_part, c.in-Dump.is) at c.find_byte.ensures))
 
 pub returns-in-Edit : goal.returns-in-Edit
 returns-in-Edit c =
-    placed_edit _ _ _ _ (cut_some _ _ _ c.cut_found-found.ensures c.if-found-eq0.false).0 c.in-Edit.ensures
-
-pub returns-in-Past : goal.returns-in-Past
-returns-in-Past c =
-    ap fault_of c.fault.ensures
-    ∙ placed_past _ _ _ _ (cut_some _ _ _ c.cut_found-found.ensures c.if-found-eq0.false).0 c.in-Past.ensures
+    let e = c.in_ok-edits.ensures.ok in
+    rw (e.0, e.1.0, e.1.1) at
+    (placed_edit _ _ _ _ c.in_ok-edits.edits.passed (rw (c.in_ok-at.ensures.ok_part, c.in-Edit.is) at c.find_byte.ensures))

@@ -5,9 +5,9 @@ use Rattle.listing.proofs.Lines.{length_two}
 use Rattle.listing.proofs.line.put_fault.Goals as goal
 
 pub put_numbers-requires : goal.put_numbers-requires
-put_numbers-requires c =
+put_numbers-requires g c =
     omega (arith, length_two (ascii "refused ") (ascii "at ") c.number-number.result c.args.fault.place (omega arith) (omega arith), c.requires)
 
 pub returns : goal.returns
 unfolding refusal_line
-returns c = rw c.number-number.ensures at c.put_numbers.ensures
+returns g c = rw c.number-number.ensures at c.put_numbers.ensures

@@ -16,18 +16,18 @@ read w p h k =
     ap read_packet8 (take_all (length w - i) (drop i w) (rw length-drop (omega arith))) ∙ single_read w _ h p k
 
 -- so it is not refused
-pub put_refused-requires : goal.put_refused-requires
-put_refused-requires c = never_refused (c.in_default.ensures ∙ read _ _ c.requires.0 c.requires.1)
+pub put_fault-requires : goal.put_fault-requires
+put_fault-requires g c = never_refused (c.in_default.ensures ∙ read _ _ c.requires.0 c.requires.1)
 
 pub returns-in_default : goal.returns-in_default
-returns-in_default c = never_refused (c.in_default.ensures ∙ read _ _ c.requires.0 c.requires.1)
+returns-in_default g c = never_refused (c.in_default.ensures ∙ read _ _ c.requires.0 c.requires.1)
 
 pub put_line-requires : goal.put_line-requires
-put_line-requires c =
+put_line-requires g c =
     let w = c.args.words.now in
-    rw (line_of _ _ c.requires.0 _ c.requires.1 _ _ _ _ (c.in-Packet.ensures ∙ read _ _ c.requires.0 c.requires.1))
+    rw (line_of _ _ c.requires.0 _ c.requires.1 _ _ _ _ (c.in-Ok.ensures ∙ read _ _ c.requires.0 c.requires.1))
     (omega (arith, c.requires.2, length-line w c.args.number (omega (arith, c.requires.1, few_packets w _ c.requires.0))))
 
 pub returns : goal.returns
-returns c =
-    rw (line_of _ _ c.requires.0 _ c.requires.1 _ _ _ _ (c.in-Packet.ensures ∙ read _ _ c.requires.0 c.requires.1)) at c.put_line.ensures
+returns g c =
+    rw (line_of _ _ c.requires.0 _ c.requires.1 _ _ _ _ (c.in-Ok.ensures ∙ read _ _ c.requires.0 c.requires.1)) at c.put_line.ensures

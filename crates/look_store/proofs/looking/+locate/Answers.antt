@@ -16,67 +16,67 @@ returns-then-left-eq0 t c = located_refused (restored-none unlimited _ c.args.le
 pub returns-then-is_whole : goal.returns-then-is_whole
 returns-then-is_whole t c =
     let store = c.args.store.now in
-    let stands = found_at store (c.find-found.ensures.stands c.requires.noted) c.in-At.is in
-    let there = ap (found_meaning store) (sym c.in-At.is) ∙ c.find-found.ensures.is c.requires.noted in
-    located_whole store c.args.number c.args.left c.if-left-eq0.false c.in-At.at stands.1 there
-    (test_is is_whole c.is_whole.ensures c.byte.ensures c.if-is_whole.true) (c.next.ensures.is stands.0) c.data_byte.ensures
+    let stands = found_at store (c.find.ensures.stands c.requires.noted) c.in-Some.is in
+    let there = ap (found_meaning store) (sym c.in-Some.is) ∙ c.find.ensures.is c.requires.noted in
+    located_whole store c.args.number c.args.left c.if-left-eq0.false c.in-Some.at stands.1 there
+    (test_is is_whole c.is_whole.ensures c.byte.ensures c.if-is_whole.true) (c.next-place.ensures.is stands.0) c.data_byte.ensures
 
-pub source_of-source-requires : goal.source_of-source-requires
-source_of-source-requires t c =
+pub source_of-requires : goal.source_of-requires
+source_of-requires t c =
     let store = c.args.store.now in
-    let delta : DeltaHere store c.args.number c.args.left c.in-At.at =
+    let delta : DeltaHere store c.args.number c.args.left c.in-Some.at =
     record {
       some_left = c.if-left-eq0.false;
-      begins = found_at store (c.find-found.ensures.stands c.requires.noted) c.in-At.is;
-      is = ap (found_meaning store) (sym c.in-At.is) ∙ c.find-found.ensures.is c.requires.noted;
+      begins = found_at store (c.find.ensures.stands c.requires.noted) c.in-Some.is;
+      is = ap (found_meaning store) (sym c.in-Some.is) ∙ c.find.ensures.is c.requires.noted;
       other = test_is is_whole c.is_whole.ensures c.byte.ensures c.if-is_whole.false;
     } in
-    (looks_inside c.requires, rw (c.next-in-At.ensures.is delta.begins.0) (delta_ordered delta c.requires))
+    (looks_inside c.requires, rw (c.next-place.ensures.is delta.begins.0) (delta_ordered delta c.requires))
 
 pub locate-requires : goal.locate-requires
 locate-requires t c =
     let store = c.args.store.now in
-    let delta : DeltaHere store c.args.number c.args.left c.in-At.at =
+    let delta : DeltaHere store c.args.number c.args.left c.in-Some.at =
     record {
       some_left = c.if-left-eq0.false;
-      begins = found_at store (c.find-found.ensures.stands c.requires.noted) c.in-At.is;
-      is = ap (found_meaning store) (sym c.in-At.is) ∙ c.find-found.ensures.is c.requires.noted;
+      begins = found_at store (c.find.ensures.stands c.requires.noted) c.in-Some.is;
+      is = ap (found_meaning store) (sym c.in-Some.is) ∙ c.find.ensures.is c.requires.noted;
       other = test_is is_whole c.is_whole.ensures c.byte.ensures c.if-is_whole.false;
     } in
-    let source : ComesFrom (patches_in (records_from store (next_at store c.in-At.at))) c.args.position c.source_of-source.result =
-    rw (c.next-in-At.ensures.is delta.begins.0) at c.source_of-source.ensures in
+    let source : ComesFrom (patches_in (records_from store (next_at store c.in-Some.at))) c.args.position c.source_of.result =
+    rw (c.next-place.ensures.is delta.begins.0) at c.source_of.ensures in
     (omega (arith, delta.some_left), looks_below delta (source.base _ c.in-Base.is) c.number_at.ensures.0 c.requires)
 
-pub returns-in-Nothing : goal.returns-in-Nothing
-returns-in-Nothing t c =
+pub returns-in_default : goal.returns-in_default
+returns-in_default t c =
     located_refused
     (step_missing unlimited c.args.store.now c.args.left c.args.number c.if-left-eq0.false
-    (ap (found_meaning c.args.store.now) (sym c.in-Nothing.is) ∙ c.find-found.ensures.is c.requires.noted))
+    (ap (found_meaning c.args.store.now) (sym c.in_default.is) ∙ c.find.ensures.is c.requires.noted))
 
 pub returns-in-Edit : goal.returns-in-Edit
 returns-in-Edit t c =
     let store = c.args.store.now in
-    let delta : DeltaHere store c.args.number c.args.left c.in-At.at =
+    let delta : DeltaHere store c.args.number c.args.left c.in-Some.at =
     record {
       some_left = c.if-left-eq0.false;
-      begins = found_at store (c.find-found.ensures.stands c.requires.noted) c.in-At.is;
-      is = ap (found_meaning store) (sym c.in-At.is) ∙ c.find-found.ensures.is c.requires.noted;
+      begins = found_at store (c.find.ensures.stands c.requires.noted) c.in-Some.is;
+      is = ap (found_meaning store) (sym c.in-Some.is) ∙ c.find.ensures.is c.requires.noted;
       other = test_is is_whole c.is_whole.ensures c.byte.ensures c.if-is_whole.false;
     } in
-    let source : ComesFrom (patches_in (records_from store (next_at store c.in-At.at))) c.args.position c.source_of-source.result =
-    rw (c.next-in-At.ensures.is delta.begins.0) at c.source_of-source.ensures in
+    let source : ComesFrom (patches_in (records_from store (next_at store c.in-Some.at))) c.args.position c.source_of.result =
+    rw (c.next-place.ensures.is delta.begins.0) at c.source_of.ensures in
     located_edit delta (source.edit _ c.in-Edit.is)
 
 pub returns-in-Base : goal.returns-in-Base
 returns-in-Base t c =
     let store = c.args.store.now in
-    let delta : DeltaHere store c.args.number c.args.left c.in-At.at =
+    let delta : DeltaHere store c.args.number c.args.left c.in-Some.at =
     record {
       some_left = c.if-left-eq0.false;
-      begins = found_at store (c.find-found.ensures.stands c.requires.noted) c.in-At.is;
-      is = ap (found_meaning store) (sym c.in-At.is) ∙ c.find-found.ensures.is c.requires.noted;
+      begins = found_at store (c.find.ensures.stands c.requires.noted) c.in-Some.is;
+      is = ap (found_meaning store) (sym c.in-Some.is) ∙ c.find.ensures.is c.requires.noted;
       other = test_is is_whole c.is_whole.ensures c.byte.ensures c.if-is_whole.false;
     } in
-    let source : ComesFrom (patches_in (records_from store (next_at store c.in-At.at))) c.args.position c.source_of-source.result =
-    rw (c.next-in-At.ensures.is delta.begins.0) at c.source_of-source.ensures in
+    let source : ComesFrom (patches_in (records_from store (next_at store c.in-Some.at))) c.args.position c.source_of.result =
+    rw (c.next-place.ensures.is delta.begins.0) at c.source_of.ensures in
     located_below delta (source.base _ c.in-Base.is) c.number_at.ensures.0 c.locate.ensures

@@ -9,39 +9,39 @@ use Rattle.merge.proofs.Keeps.{keep_first, keep_short, keep_run, keep_last, keep
 use Rattle.merge.proofs.pending.keep.Statement.{statement}
 use Rattle.merge.proofs.pending.keep.Tie as tie
 
-abbrev start : tie.After-least-some → tie.Start
+abbrev start : tie.After-min-some → tie.Start
 start l = l.before.before.before
 
-abbrev least-of : tie.After-most-last → tie.After-least-some
+abbrev least-of : tie.After-max-last → tie.After-min-some
 least-of m = m.before.before.before.before.before.before.before
 
 -- the numbers, as far as they are known
-at_first : (l : tie.After-least-some) → let x = (start l).args in
-    Parted x.at x.to (x.at % 13) l.least-some.result ((x.at + 12) / 13) (max ((x.at + 12) / 13) (x.to / 13)) (x.to - 13 * max ((x.at + 12) / 13) (x.to / 13))
-at_first l = parted (start l).args.at (start l).args.to _ _ _ _ _ (start l).requires.0 refl l.least-some.ensures refl refl refl
+at_first : (l : tie.After-min-some) → let x = (start l).args in
+    Parted x.at x.to (x.at % 13) l.min-some.result ((x.at + 12) / 13) (max ((x.at + 12) / 13) (x.to / 13)) (x.to - 13 * max ((x.at + 12) / 13) (x.to / 13))
+at_first l = parted (start l).args.at (start l).args.to _ _ _ _ _ (start l).requires.0 refl l.min-some.ensures refl refl refl
 
-at_most : (m : tie.After-most-last) → let l = least-of m in let x = (start l).args in
-    Parted x.at x.to (x.at % 13) l.least-some.result ((x.at + 12) / 13) m.most-last.result (x.to - 13 * m.most-last.result)
-at_most m = let l = least-of m in parted (start l).args.at (start l).args.to _ _ _ _ _ (start l).requires.0 refl l.least-some.ensures refl m.most-last.ensures refl
+at_most : (m : tie.After-max-last) → let l = least-of m in let x = (start l).args in
+    Parted x.at x.to (x.at % 13) l.min-some.result ((x.at + 12) / 13) m.max-last.result (x.to - 13 * m.max-last.result)
+at_most m = let l = least-of m in parted (start l).args.at (start l).args.to _ _ _ _ _ (start l).requires.0 refl l.min-some.ensures refl m.max-last.ensures refl
 
-abbrev most-of : tie.After-over-rest → tie.After-most-last
+abbrev most-of : tie.After-saturating_sub-rest → tie.After-max-last
 most-of o = o.before.before.before.before.before
 
-at-over : (o : tie.After-over-rest) → let m = most-of o in let l = least-of m in let x = (start l).args in
-    Parted x.at x.to (x.at % 13) l.least-some.result ((x.at + 12) / 13) m.most-last.result o.over-rest.result
-at-over o = let m = most-of o in let l = least-of m in parted (start l).args.at (start l).args.to _ _ _ _ _ (start l).requires.0 refl l.least-some.ensures refl m.most-last.ensures o.over-rest.ensures
+at-over : (o : tie.After-saturating_sub-rest) → let m = most-of o in let l = least-of m in let x = (start l).args in
+    Parted x.at x.to (x.at % 13) l.min-some.result ((x.at + 12) / 13) m.max-last.result o.saturating_sub-rest.result
+at-over o = let m = most-of o in let l = least-of m in parted (start l).args.at (start l).args.to _ _ _ _ _ (start l).requires.0 refl l.min-some.ensures refl m.max-last.ensures o.saturating_sub-rest.ensures
 
 append-requires : tie.Need-append-flow-requires
 append-requires c κs =
     let n = at_first c.before.before in
-    (omega (arith, n.few.1.0), (c.middle-piece.ensures.1, keep_first n (start c.before.before).requires.1.1))
+    (omega (arith, n.few.1.0), keep_first n (start c.before.before).requires.1.1)
 
 run-requires : tie.Need-run-flow-requires
 run-requires c κs =
     let l = least-of c.before in
     let n = at_most c.before in
     let a = c.append-flow.ensures in
-    (n.whole, (omega (arith, (appends_goes a (omega (arith, n.few.1.0))).long, n.top, (start l).requires.1.0), keep_run n (start l).requires.1.1 _ c.middle-piece.ensures.0 (start l).requires.0 a))
+    (n.whole, (omega (arith, (appends_goes a (omega (arith, n.few.1.0))).long, n.top, (start l).requires.1.0), keep_run n (start l).requires.1.1 _ c.middle-piece.ensures (start l).requires.0 a))
 
 front-of-requires : tie.Need-front_of-tail-requires
 front-of-requires c κs =
@@ -56,25 +56,25 @@ append-requires-2 c κs =
     let m = most-of c.before.before in
     let l = least-of m in
     let n = at-over c.before.before in
-    (omega (arith, n.tail), (c.front_of-tail.ensures.1, keep_last n (start l).requires.1.1 _ m.middle-piece.ensures.0 (start l).requires.0 m.append-flow.ensures c.run-flow.ensures))
+    (omega (arith, n.tail), keep_last n (start l).requires.1.1 _ m.middle-piece.ensures (start l).requires.0 m.append-flow.ensures c.run-flow.ensures)
 
 returns-3 : tie.Need-returns
 returns-3 c =
     let m = most-of c.before.before.before.before.before in
     let l = least-of m in
-    keep_goes (at-over c.before.before.before.before.before) (start l).requires.0 _ m.middle-piece.ensures.0 m.append-flow.ensures c.run-flow.ensures
-    _ c.front_of-tail.ensures.0 c.append.ensures
+    keep_goes (at-over c.before.before.before.before.before) (start l).requires.0 _ m.middle-piece.ensures m.append-flow.ensures c.run-flow.ensures
+    _ c.front_of-tail.ensures c.append.ensures
 
 -- nothing is kept
 returns : tie.Need-returns-then-at-to
 returns c =
     let z : c.args.to - c.args.at ≡ 0 = omega (arith, c.if-at-to.true) in
-    rw z (goes_none c.requires.1.1.fits)
+    rw z goes_none
 
 -- all of it stands in one packet
 returns_2 : tie.Need-returns-then-to-first
 returns_2 c =
-    keep_short (at_first c.before.before.before.before.before.before) (start c.before.before.before.before.before.before).requires.0 c.if-to-first.true _ c.middle-piece.ensures.0 c.append-flow.ensures
+    keep_short (at_first c.before.before.before.before.before.before) (start c.before.before.before.before.before.before).requires.0 c.if-to-first.true _ c.middle-piece.ensures c.append-flow.ensures
 
 pub keep_spec : {M : Type 1} → statement M
 keep_spec =

@@ -1,7 +1,7 @@
 -- `run` meets its contract: the packets that stand in their places are taken at once. Assumes nothing.
 use Rattle.std.proofs.Common.{◌≡◌, ◌+◌, ◌-◌, ◌*◌, subst, arith}
 use Rattle.merge.specs.Pieces.{taken, Runs, Kept}
-use Rattle.merge.specs.declared.pending.Pending.{Pending}
+use Rattle.merge.specs.declared.held.Pending.{Pending}
 use Rattle.merge.proofs.Running.{flows_none, goes_as, ran_there}
 use Rattle.merge.proofs.pending.run.Goals as goal
 
@@ -24,4 +24,4 @@ pub returns : goal.returns
 returns c =
     let x = c.args in
     let in_place : x.pending.packet ≡ x.first + x.lag = omega arith in
-    rw c.nothing-2.ensures (ran_there x.head x.lag x.first x.last x.pending x.words.now c.requires.1.1.fits c.if-pending-ne0.false c.requires.0 in_place)
+    rw c.nothing-2.ensures (ran_there x.head x.lag x.first x.last x.pending x.words.now c.if-pending-ne0.false c.requires.0 in_place)

@@ -26,26 +26,25 @@ returns c =
     rw (sym (some_is c.before) ∙ c.if-some-eq0.true, front_zero _ (body-fits x.words.now x.packet))
     (record {
       appended = record { fewer = λ l. (refl, (rw (zero-div (2 ^ (8 * x.pending.count)), add-zero), (omega arith, refl))); enough = λ l. absurd (omega (arith, r.padded.few)) };
-      small = r.padded.fits;
     })
 
 append-requires : tie.Need-append-requires
 append-requires c κs =
     let r = c.requires.0.1.1 in
-    (omega arith, (c.load-bytes.ensures.1, record { padded = r.padded; fits = omega (arith, c.requires.0, r.padded.few); small = r.small; free = r.free }))
+    (omega arith, record { padded = r.padded; fits = omega (arith, c.requires.0, r.padded.few); small = r.small; free = r.free })
 
 returns_2 : tie.Need-returns-then-some-eq13
 returns_2 c =
-    rw (sym (some_is c.before.before.before.before.before.before.before) ∙ c.if-some-eq13.true, ← c.load-bytes.ensures.0, front_all) c.append.ensures
+    rw (sym (some_is c.before.before.before.before.before.before.before) ∙ c.if-some-eq13.true, ← c.load-bytes.ensures, front_all) c.append.ensures
 
 append-requires-2 : tie.Need-append-requires-2
 append-requires-2 c κs =
     let r = c.requires.0.1.1 in
-    (omega (arith, few c.before.before.before.before.before), (c.front.ensures.1, record { padded = r.padded; fits = omega (arith, c.requires.0, r.padded.few, few c.before.before.before.before.before); small = r.small; free = r.free }))
+    (omega (arith, few c.before.before.before.before.before), record { padded = r.padded; fits = omega (arith, c.requires.0, r.padded.few, few c.before.before.before.before.before); small = r.small; free = r.free })
 
 returns-3 : tie.Need-returns
 returns-3 c =
-    rw (← (some_is c.before.before.before.before.before.before.before.before), ← c.load-bytes.ensures.0, ← c.front.ensures.0) c.append-2.ensures
+    rw (← (some_is c.before.before.before.before.before.before.before.before), ← c.load-bytes.ensures, ← c.front.ensures) c.append-2.ensures
 
 pub take_packet_spec : {M : Type 1} → statement M
 take_packet_spec =
@@ -62,7 +61,7 @@ take_packet_spec =
     append-requires
     (λ c. search rules)
     returns_2
-    (λ c κs. (omega (arith, few c.before.before.before.before), c.load-bytes.ensures.1))
+    (λ c κs. omega (arith, few c.before.before.before.before))
     append-requires-2
     (λ c. search rules)
     returns-3)

@@ -10,19 +10,19 @@ loop-kept-init c = going_start c.requires.1.0 c.requires.1.1.0 c.requires.1.1.1
 
 pub returns-in_default : goal.returns-in_default
 returns-in_default c =
-    going_ends c.loop-kept.invariant c.flag.new.table c.flag.auto.table c.flag.ensures (ap basis_meaning (sym c.in_default.is) ∙ c.basis_of-basis.ensures.is c.requires.0)
+    going_ends c.loop-kept.invariant c.flag.new.table c.flag.auto.table c.flag.ensures (ap basis_meaning (sym c.in_default.is) ∙ c.basis_of.ensures.is c.requires.0)
 
 pub loop-kept-smaller : goal.loop-kept-smaller
 loop-kept-smaller c =
     let after = c.flag.new.table in
     fewer c.loop-kept.kept after (flagged_still c.loop-kept.invariant after c.flag.auto.table c.flag.ensures) c.loop-kept.current (numbers_of (dumps_of c.args.store.now))
-    (based_held (dumps_of c.args.store.now) c.loop-kept.current (ap basis_meaning (sym c.in-Delta.is) ∙ c.basis_of-basis.ensures.is c.requires.0))
+    (based_held (dumps_of c.args.store.now) c.loop-kept.current (ap basis_meaning (sym c.in-Delta.is) ∙ c.basis_of.ensures.is c.requires.0))
     (sym c.is_flagged.ensures ∙ c.loop-kept-test.true)
     (flagged_here c.loop-kept.invariant after c.flag.auto.table c.flag.ensures)
 
 pub loop-kept-preserved : goal.loop-kept-preserved
 loop-kept-preserved c =
-    going_on c.loop-kept.invariant c.flag.new.table c.flag.auto.table c.flag.ensures (ap basis_meaning (sym c.in-Delta.is) ∙ c.basis_of-basis.ensures.is c.requires.0) (rw c.in-Delta.is at c.basis_of-basis.ensures.small)
+    going_on c.loop-kept.invariant c.flag.new.table c.flag.auto.table c.flag.ensures (ap basis_meaning (sym c.in-Delta.is) ∙ c.basis_of.ensures.is c.requires.0) (rw c.in-Delta.is at c.basis_of.ensures.small)
 
 pub returns : goal.returns
 returns c = going_done c.loop-kept.invariant (sym c.is_flagged.ensures ∙ c.loop-kept-test.false)

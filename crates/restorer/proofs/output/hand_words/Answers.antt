@@ -5,9 +5,10 @@ use Rattle.listing.proofs.Loading.{handed_room, handed_whole}
 use Rattle.restorer.proofs.output.hand_words.Goals as goal
 
 pub returns-then-text-words : goal.returns-then-text-words
-returns-then-text-words c = handed_room _ _ (omega (arith, c.if-text-words.true, length-octets c.args.words.now))
+returns-then-text-words c =
+    rw c.into.ensures (handed_room _ _ (omega (arith, c.if-text-words.true, length-octets c.args.words.now)))
 
 pub returns : goal.returns
 returns c =
-    rw (c.put_words.ensures.0, c.put_words.ensures.1)
+    rw (← (length-octets c.args.words.now), c.put_words.ensures)
     (sym (handed_whole _ _ (omega (arith, c.if-text-words.false, length-octets c.args.words.now))))

@@ -6,13 +6,13 @@ use Rattle.restorer.proofs.output.write.Goals as goal
 
 -- a dump that is restored lies within the words
 pub slice_bounds-words-end : goal.slice_bounds-words-end
-slice_bounds-words-end c = within _ _ _ _ _ c.in-Words.ensures
+slice_bounds-words-end c = within _ _ _ _ _ c.in-Ok.ensures
 
 pub slice_bounds-hand_words-end : goal.slice_bounds-hand_words-end
-slice_bounds-hand_words-end c = sym (length-take-le _ _ (within _ _ _ _ _ c.in-Words.ensures))
+slice_bounds-hand_words-end c = sym (length-take-le _ _ (within _ _ _ _ _ c.in-Ok.ensures))
 
-pub returns-in-Refused : goal.returns-in-Refused
-returns-in-Refused c = rw (output-line _ _ c.in-Refused.ensures) c.refuse.ensures
+pub returns-in-Err : goal.returns-in-Err
+returns-in-Err c = rw (output-line _ _ c.in-Err.ensures) c.refuse.ensures
 
-pub returns-in-Words : goal.returns-in-Words
-returns-in-Words c = rw (output-words _ _ c.in-Words.ensures) c.hand_words.ensures
+pub returns-in-Ok : goal.returns-in-Ok
+returns-in-Ok c = rw (output-words _ _ c.in-Ok.ensures) c.hand_words.ensures

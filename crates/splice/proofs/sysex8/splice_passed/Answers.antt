@@ -10,14 +10,14 @@ use Rattle.splice.proofs.Calls.{splice_reversed, splice_past, splice_room, splic
 use Rattle.splice.proofs.sysex8.splice_passed.Goals as goal
 
 pub returns-then-to-from : goal.returns-then-to-from
-returns-then-to-from c = rw c.refuse.ensures (splice_reversed c.requires _ _ _ c.if-to-from.true)
+returns-then-to-from c = rw c.into.ensures (splice_reversed c.requires _ _ _ c.if-to-from.true)
 
 pub returns-then-size-to : goal.returns-then-size-to
-returns-then-size-to c = rw c.refuse-then-size-to.ensures (splice_past c.requires _ _ _ c.if-to-from.false c.if-size-to.true)
+returns-then-size-to c = rw c.into-then-size-to.ensures (splice_past c.requires _ _ _ c.if-to-from.false c.if-size-to.true)
 
 pub returns-then-replacement-gt-MOST_BYTES : goal.returns-then-replacement-gt-MOST_BYTES
 returns-then-replacement-gt-MOST_BYTES c =
-    rw c.refuse-then-replacement-gt-MOST_BYTES.ensures
+    rw c.into-then-replacement-gt-MOST_BYTES.ensures
     (splice_many c.requires _ _ _ c.if-to-from.false c.if-size-to.false c.if-replacement-gt-MOST_BYTES.true)
 
 -- the payload of a message that passed is no more than any message holds
@@ -26,7 +26,7 @@ overflow_add-size c = omega (arith, inside c.requires, size_fits c.requires)
 
 pub returns-then-words-words_needed : goal.returns-then-words-words_needed
 returns-then-words-words_needed c =
-    rw c.refuse-then-words-words_needed.ensures
+    rw c.into-then-words-words_needed.ensures
     (splice_room c.requires _ _ _ c.if-to-from.false c.if-size-to.false (rw c.words_needed.ensures at c.if-words-words_needed.true))
 
 pub growth-requires : goal.growth-requires

@@ -7,7 +7,7 @@ use Rattle.splice.proofs.sysex8.words_needed.Statement.{statement}
 use Rattle.splice.proofs.sysex8.words_needed.Tie as tie
 
 mul-result : tie.Need-overflow_mul-result
-mul-result c = omega (arith, c.sysex8_packets.ensures, packets_are sysex8 c.args.size, c.ranges.size)
+mul-result c = omega (arith, c.packets_for.ensures, packets_are sysex8 c.args.size, c.ranges.size)
 
 pub words_needed_spec : {M : Type 1} → statement M
 words_needed_spec = tie.close (tie.spec (λ c κs. search rules) mul-result (λ c. search rules))

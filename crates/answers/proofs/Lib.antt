@@ -1,2 +1,0 @@
--- The law behind the structs.
-pub mod Laws

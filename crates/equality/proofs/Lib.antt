@@ -1,3 +1,0 @@
--- Laws of comparisons.
-pub mod Telling
-pub mod Alike

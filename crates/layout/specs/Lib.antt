@@ -1,0 +1,2 @@
+-- The numbers of a shape, as code takes them.
+pub mod Format

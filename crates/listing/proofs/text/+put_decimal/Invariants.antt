@@ -1,5 +1,0 @@
--- `listing::text::put_decimal`: the measure is the number. Assumes nothing.
-use Rattle.listing.proofs.text.+put_decimal.Given as goal
-
-abbrev pub decreases-put_decimal : goal.decreases-put_decimal
-decreases-put_decimal l = l.number

@@ -1,9 +1,0 @@
--- `message::sysex8::why`: the refusals of this shape. Assumes nothing.
-use borrow.Author.Rules.{rules}
-use Rattle.ump.specs.Packet.{sysex8}
-use Rattle.message.proofs.Checked.{shaped8}
-use Rattle.message.proofs.sysex8.why.Statement.{statement}
-use Rattle.message.proofs.sysex8.why.Tie as tie
-
-pub why_spec : {M : Type 1} → statement M
-why_spec = tie.close (tie.spec (λ c κs. search rules) (λ c. c.why.ensures sysex8 shaped8))

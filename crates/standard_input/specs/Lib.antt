@@ -1,2 +1,0 @@
--- What is read from standard input.
-pub mod Input

@@ -1,7 +1,0 @@
--- `store::record::is_wanted`. Assumes nothing.
-use Rattle.store.proofs.Records.{kind_first, kind_second}
-use Rattle.store.proofs.record.is_wanted.Statement.{statement}
-use Rattle.store.proofs.record.is_wanted.Tie as tie
-
-pub is_wanted_spec : {M : Type 1} → statement M
-is_wanted_spec = tie.close (tie.spec (λ c. kind_first _ c.if-kind-eq1.true) (λ c. kind_second _ c.if-kind-eq1.false))

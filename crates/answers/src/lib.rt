@@ -9,7 +9,7 @@ ghost use Rattle.ump.specs.Single.{single_packet};
 ghost use Rattle.ump.specs.Check.{summary};
 ghost use Rattle.packet.specs.Meaning.{kind_meaning};
 ghost use Rattle.edit.specs.Meaning.{range_meaning, octet_meaning};
-ghost use Rattle.look.specs.Meaning.{found_meaning};
+ghost use Rattle.look.specs.Meaning.{found_run};
 ghost use Rattle.ports.specs.Meaning.{reply_meaning};
 ghost use Rattle.reader.specs.Meaning.{cursor_meaning, read_meaning};
 ghost use Rattle.chain.specs.Meaning.{description_meaning};
@@ -466,7 +466,7 @@ impl From<Fault> for OriginAnswer {
 }
 
 impl From<Found> for RunAnswer {
-    ghost from_gives = { λ found struct. struct ≡ run_answer (gives (found_meaning found)) };
+    ghost from_gives = { λ found struct. struct ≡ run_answer (gives (found_run found)) };
 
     // Where a run stands.
     fn from(found: Found) -> RunAnswer {

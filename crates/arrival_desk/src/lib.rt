@@ -4,6 +4,7 @@
 
 pub mod many;
 
+use equality::words::same_words;
 use ports::Received;
 use refusal::{Fault, Refusal};
 
@@ -57,10 +58,17 @@ impl Desk {
         received
     }
 
+    // The table, the words and the output are those of before.
+    fn has_stayed(&self, before: &Desk) -> bool {
+        same_words(&self.table, &before.table)
+            && same_words(&self.words, &before.words)
+            && same_words(&self.output, &before.output)
+    }
+
     // The packet is answered so, and the output is this one after the call.
     fn answers(&mut self, port: u8, packet: &[u32], answer: Received, output: [u32; 16]) {
         let received = self.call(port, packet);
-        self.right &= received == Ok(answer) && self.output == output;
+        self.right &= received == Ok(answer) && same_words(&self.output, &output);
     }
 
     // The packet is kept, and the output stays.
@@ -77,7 +85,7 @@ impl Desk {
     pub fn refuse_words(&mut self, port: u8, packet: &[u32], refusal: Refusal) {
         let before = *self;
         let received = self.call(port, packet);
-        self.right &= received == Err(refusal.into()) && *self == before;
+        self.right &= received == Err(refusal.into()) && self.has_stayed(&before);
     }
 
     // The same of the packet with this first word.

@@ -1,4 +1,5 @@
 // The most words that are lent: 16,384, so that a part has 1,024; one more is Long.
+use equality::words::same_words;
 use ports::Received;
 use refusal::{Fault, Refusal};
 
@@ -12,12 +13,7 @@ fn refuses(
 ) -> bool {
     let mut table = [7u32; 32];
     let received = ports::receive(&mut table, words, port, packet, output);
-    received == Err(refusal.into()) && table == [7; 32]
-}
-
-// All of these words are this one.
-fn all_are(words: &[u32], expected: u32) -> bool {
-    words.iter().all(|word| *word == expected)
+    received == Err(refusal.into()) && same_words(&table, &[7; 32])
 }
 
 // 16,385 words for the streams: a complete packet; no packet, at port 2, so that Long comes first.
@@ -31,7 +27,7 @@ pub fn long_words() -> bool {
         &mut output,
         Refusal::Long,
     ) && refuses(&mut words, 2, &[], &mut output, Refusal::Long)
-        && all_are(&words, 8)
+        && same_words(&words, &[8; 16385])
 }
 
 // The same with 16,385 words of output.
@@ -45,7 +41,7 @@ pub fn long_output() -> bool {
         &mut output,
         Refusal::Long,
     ) && refuses(&mut words, 2, &[], &mut output, Refusal::Long)
-        && all_are(&output, 9)
+        && same_words(&output, &[9; 16385])
 }
 
 // 16,384 of both are not Long: the reader's refusal, Port.
@@ -112,5 +108,5 @@ pub fn longest() -> bool {
         && receive(&mut table, &mut words, 1, &mut output) == Err(Refusal::Room.into())
         && receive(&mut table, &mut words, 256, &mut output) == Ok(Received::HandedOut(1028))
         && has_message(&output)
-        && all_are(&output[1028..], 9)
+        && same_words(&output[1028..], &[9; 15356])
 }

@@ -56,7 +56,7 @@ pub record Answers {A B : Type 0} (Call : Answer A → B → Type 0) : Type 0 wh
   pub call : Call answer left
 
 pub record Chained (Restores : Restorer) (Describes : Describer) : Type 0 where
-  -- Each store, number and words have an outcome, so that nothing here is said of None.
+  -- Each store, number and words have an outcome, so that nothing here is said of none.
   pub answers : (store : List ℕ) (n : ℕ)
       → ((words : List ℕ) → Answers (Restores store n words))
       × Answers (λ (answer : Answer Description) (left : Unit {0}). Describes store n answer)

@@ -1,6 +1,7 @@
 // Samples of many dumps, of long walks and of large payloads.
 use chain::{Basis, Description};
 use compare::report;
+use equality::words::same_words;
 use refusal::Refusal;
 use std::{array, io};
 use stores::answers::{
@@ -97,8 +98,15 @@ pub(crate) fn report_long_walks(rt: &impl Print) -> io::Result<()> {
 
 // The words are full packets; looked at are the first and the last.
 fn are_full(words: &[u32]) -> bool {
-    words.starts_with(&[0x501E_0001, 0x0203_0405, 0x0607_0809, 0x0A0B_0C0D])
-        && words.ends_with(&[0x503E_00F3, 0xF4F5_F6F7, 0xF8F9_FAFB, 0xFCFD_FEFF])
+    words.len() >= 4
+        && same_words(
+            &words[..4],
+            &[0x501E_0001, 0x0203_0405, 0x0607_0809, 0x0A0B_0C0D],
+        )
+        && same_words(
+            &words[words.len() - 4..],
+            &[0x503E_00F3, 0xF4F5_F6F7, 0xF8F9_FAFB, 0xFCFD_FEFF],
+        )
 }
 
 // The dump of this number fills the words lent.
@@ -121,13 +129,13 @@ fn largest_edit() -> bool {
 // 53,261 bytes of a whole dump: Room.
 fn too_large_whole() -> bool {
     let store: [u8; 57363] = array::from_fn(data);
-    refuses_in(&store, 1, &mut [9; 16384], Refusal::Room)
+    refuses_in(&store, 1, &mut [9; 16384], &[9; 16384], Refusal::Room)
 }
 
 // 53,261 bytes of an edit: Room, and not Range.
 fn too_large_edit() -> bool {
     let store: [u8; 57373] = array::from_fn(edit_data);
-    refuses_in(&store, 2, &mut [9; 16384], Refusal::Room)
+    refuses_in(&store, 2, &mut [9; 16384], &[9; 16384], Refusal::Room)
 }
 
 // Writes a line for each sample of a large payload.
@@ -147,13 +155,13 @@ fn largest_small() -> bool {
 // 3,341 bytes and 1,024 words: Room.
 fn too_large_small() -> bool {
     let store: [u8; 3603] = array::from_fn(data);
-    refuses_in(&store, 1, &mut [9; 1024], Refusal::Room)
+    refuses_in(&store, 1, &mut [9; 1024], &[9; 1024], Refusal::Room)
 }
 
 // 3,341 bytes of an edit, and 1,024 words: Room.
 fn too_large_small_edit() -> bool {
     let store: [u8; 3613] = array::from_fn(edit_data);
-    refuses_in(&store, 2, &mut [9; 1024], Refusal::Room)
+    refuses_in(&store, 2, &mut [9; 1024], &[9; 1024], Refusal::Room)
 }
 
 // Writes a line for each sample of 1,024 words.

@@ -1,6 +1,7 @@
 // Samples of edits.
 use compare::MESSAGE;
 use edit::Edit;
+use equality::words::same_words;
 use refusal::Fault;
 use splice::sysex8::splice;
 
@@ -24,14 +25,16 @@ fn comes_to(
     expected: &[u32],
 ) -> bool {
     let mut words = MESSAGE;
-    edit_both(&mut words, done, pending, done_first) == Ok(4) && &words[..] == expected
+    edit_both(&mut words, done, pending, done_first) == Ok(4) && same_words(&words, expected)
 }
 
 // P5's message with all edits of a list at once: four words are the message expected, with this growth.
 fn comes_at_once(numbers: &[usize], bytes: &[u8], growth: i64, expected: &[u32]) -> bool {
     let mut words = MESSAGE;
     match edit::splice_all(&mut words, 12, numbers, bytes) {
-        Ok(change) => (change.length, change.growth) == (4, growth) && &words[..] == expected,
+        Ok(change) => {
+            (change.length, change.growth) == (4, growth) && same_words(&words, expected)
+        }
         Err(_) => false,
     }
 }

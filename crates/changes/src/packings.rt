@@ -1,11 +1,12 @@
 // Samples of packing and splice.
 use compare::MESSAGE;
+use equality::words::same_words;
 use refusal::{Fault, Refusal};
 use splice::sysex8::{Change, words_needed as needed};
 
 // Packing these words as one message answers this length and leaves the words expected.
 fn packs(words: &mut [u32], new: usize, expected: &[u32]) -> bool {
-    splice::sysex8::repack(words, words.len()) == Ok(new) && &*words == expected
+    splice::sysex8::repack(words, words.len()) == Ok(new) && same_words(words, expected)
 }
 
 // 50110900 0 0 0 50310900 0 0 0 packs to 50010900 0 0 0.
@@ -83,7 +84,7 @@ pub(crate) fn p6() -> bool {
         0,
     ];
     match put_in(&mut words) {
-        Ok(change) => (change.length, change.growth) == (8, 13) && words == expected,
+        Ok(change) => { (change.length, change.growth) == (8, 13) && same_words(&words, &expected) }
         Err(_) => false,
     }
 }
@@ -92,7 +93,7 @@ pub(crate) fn p6() -> bool {
 pub(crate) fn p7() -> bool {
     let before = [0x5203_0741u32, 0x4200_0000, 0, 0, 9, 9, 9];
     let mut words = before;
-    put_in(&mut words) == Err(Refusal::Room.into()) && words == before
+    put_in(&mut words) == Err(Refusal::Room.into()) && same_words(&words, &before)
 }
 
 // Words for 0, 13, 14, 26, 27 bytes: 4, 4, 8, 8, 12. A size is no more than 64 bits hold: where 12 more would be too many, and the largest.

@@ -1,5 +1,6 @@
 // Refusals of packing, splice and setting the payload, and that the words then stay.
 use compare::report;
+use equality::words::same_words;
 use refusal::{Fault, Refusal};
 use std::io;
 
@@ -20,7 +21,8 @@ fn keeps(
     place: usize,
     expected: &[u32],
 ) -> bool {
-    splice::sysex8::repack(words, length) == Err(Fault { refusal, place }) && &*words == expected
+    splice::sysex8::repack(words, length) == Err(Fault { refusal, place })
+        && same_words(words, expected)
 }
 
 // The same of three packets with these first words.
@@ -116,13 +118,15 @@ const P2: [u32; 4] = [0x5203_0741, 0x4200_0000, 0, 0];
 // Replacing `from..to` of P2's two bytes by 14 bytes is refused so, and the words stay.
 fn splice_keeps(from: usize, to: usize, refusal: Refusal) -> bool {
     let mut words = P2;
-    splice::sysex8::splice(&mut words, 4, from, to, &[7; 14]) == Err(refusal.into()) && words == P2
+    splice::sysex8::splice(&mut words, 4, from, to, &[7; 14]) == Err(refusal.into())
+        && same_words(&words, &P2)
 }
 
 // Setting 14 bytes as P2's payload, in its four words: 14, and the words stay.
 fn setting_keeps() -> bool {
     let mut words = P2;
-    splice::sysex8::set_payload(&mut words, 4, &[7; 14]) == Err(Refusal::Room.into()) && words == P2
+    splice::sysex8::set_payload(&mut words, 4, &[7; 14]) == Err(Refusal::Room.into())
+        && same_words(&words, &P2)
 }
 
 // After the check a splice refuses 13, then 14; setting the payload 14 alone.

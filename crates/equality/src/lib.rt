@@ -1,5 +1,4 @@
-// Lists compared by the slices' own `==`, with what the answer tells as a promise. Bytes are compared by `check::same` of the kit, which
-// promises the same.
+// Lists compared by the slices' own `==`, with what the answer tells as a promise: words, numbers, and lists that are padded.
 #![tactic(auto)]
 
 pub mod numbers;

@@ -24,7 +24,7 @@ use Rattle.look.specs.Look.{some_run, find, edit_by, patch_by, shown, stands_at,
 use Rattle.look.specs.declared.Found.{Found}
 use Rattle.look.specs.declared.Found.TheVariants as variant
 use Rattle.look.specs.declared.Part.{Part}
-use Rattle.look.specs.Meaning.{found_meaning}
+use Rattle.look.specs.Meaning.{found_run}
 use Rattle.look.proofs.Right.{Right, right}
 
 -- ---- each return of the call is a case
@@ -163,7 +163,7 @@ module _ (dump : List ℕ) (from to : ℕ) (replacement : List ℕ) (i : ℕ) wh
 
     -- the part of the dump that was found, before the edit or behind it
     pub side_part : {stands : Found} {part : Part} → (stands ≡ variant.Before part) ⊎ (stands ≡ variant.Behind part)
-        → find (length dump) edit i ≡ gives (found_meaning stands)
+        → find (length dump) edit i ≡ gives (found_run stands)
         → LentFrom dump_at dump part.start part.end (part_lent dump_at lent_at dump from to replacement i)
     side_part side q = elim side [ inl e ↦ dump_part (rw e at q) | inr e ↦ dump_part (rw e at q) ]
 

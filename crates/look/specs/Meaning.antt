@@ -8,11 +8,11 @@ use Rattle.ump.specs.Runs.{Run, of_dump, of_edit}
 use Rattle.look.specs.declared.Found.{Found}
 use Rattle.look.specs.declared.Found.TheVariants as found
 
-abbrev pub found_meaning : Found → Run
-found_meaning (found.Before part) = of_dump 0 part.start part.end
-found_meaning (found.Within part) = of_edit 0 part.start part.end
-found_meaning (found.Behind part) = of_dump 1 part.start part.end
+abbrev pub found_run : Found → Run
+found_run (found.Before part) = of_dump 0 part.start part.end
+found_run (found.Within part) = of_edit 0 part.start part.end
+found_run (found.Behind part) = of_dump 1 part.start part.end
 
 abbrev pub run_meaning : Result Found Fault → Answer Run
-run_meaning (Ok stands) = gives (found_meaning stands)
+run_meaning (Ok stands) = gives (found_run stands)
 run_meaning (Err fault) = fault_of fault

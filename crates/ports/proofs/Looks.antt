@@ -1,14 +1,17 @@
 -- The slot of a key, if one has it, and the stream there. Assumes nothing.
 use Rattle.std.specs.Prelude.{Option, None, Some}
+use Rattle.std.specs.Option.{option_or}
+use Rattle.std.specs.Bool.{then_some}
 use Rattle.std.specs.List.{position}
 use Rattle.std.proofs.lemmas.List.{get_or-take}
 use Rattle.std.proofs.lemmas.List.Sums.{position_or_len_is}
-use mathlib.Core.Path.{◌≡◌, ap, ◌∙◌}
-use mathlib.Core.Bool.{Bool}
+use mathlib.Core.Path.{◌≡◌, refl, ap, ◌∙◌}
+use mathlib.Core.Bool.{Bool, true, false, cond}
 use mathlib.Core.List.{List}
-use Prim.Native.Nat.{ℕ, ◌≤◌, ◌<◌}
+use Prim.Native.Nat.{ℕ, suc, ◌+◌, ◌≤◌, ◌<◌}
+use native.Mathlib.Numerals.{add-one}
 use native.Mathlib.Omega.{arith}
-use lib.Dec.{eqb}
+use lib.Dec.{eqb, ltb}
 use lib.ListN.{length, get_or, take, length-take}
 use borrow.Author.Tests.{lt-ltb, le-ltb}
 use Rattle.ump.specs.Check.{first_where}
@@ -40,6 +43,19 @@ module _ (f : ℕ → Bool) (n : ℕ) where
       go : Side (first_where f n) n → n ≤ first_where f n
       go (under h t) = let q : Some (first_where f n) ≡ None = rw t at e in cc
       go (over h t) = h
+
+  -- a walk over them: one more
+  pub found_more : found_below f (n + 1) ≡ option_or (found_below f n) (then_some (f n) n)
+  unfolding first_where
+  found_more = rw add-one (go (side (first_where f n) n))
+    where
+      go : Side (first_where f n) n → found_below f (suc n) ≡ option_or (found_below f n) (then_some (f n) n)
+      go (under h t) = rw (t, lt-ltb (first_where f n) (suc n) (omega arith)) refl
+      go (over h t) = rw t (here (f n) refl)
+        where
+          here : (b : Bool) → f n ≡ b → cond (ltb (cond b n (suc n)) (suc n)) (Some (cond b n (suc n))) None ≡ then_some b n
+          here true e = rw (lt-ltb n (suc n) (omega arith)) refl
+          here false e = rw (le-ltb (suc n) (suc n) (omega arith)) refl
 
 module _ (table : List ℕ) (key : ℕ) where
   pub slot_some : {k : ℕ} → found_slot table key ≡ Some k → (slot_of table key ≡ k) × (k < 16)

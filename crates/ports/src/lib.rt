@@ -1,7 +1,7 @@
 // Streams of two ports that interleave, on one table of 16 slots with an equal part of the lent words for each.
 #![tactic(auto)]
 
-ghost use Rattle.std.specs.Prelude.{◌≡◌, IfOk, false, ◌≤◌, ◌<◌, length, take};
+ghost use Rattle.std.specs.Prelude.{◌≡◌, IfOk, false, ◌≤◌, ◌<◌, ◌++◌, length, take, drop};
 ghost use Rattle.ump.specs.Limits.{most_words};
 ghost use Rattle.ump.specs.Single.{start, continue, end, complete, unexpected_end};
 ghost use Rattle.packet.specs.Meaning.{kind_meaning};
@@ -74,25 +74,38 @@ fn used_of(table: &[u32; 32], part: usize, slot: usize) -> usize
     (table[16 + slot] as usize).min(part)
 }
 
-// The slot of a start: its stream's, or the first free one; Share, Full.
+// Copies words to the front of others.
+// Word by word: the slices' own copy calls `memcpy`, and of the C library the calls need `memset` alone (README).
+fn copy_front(to: &mut [u32], from: &[u32])
+    requires { length from.now ≤ length to.old }
+    ensures { to.new ≡ from.now ++ drop (length from.now) to.old }
+{
+    for index in 0..from.len() {
+        to[index] = from[index];
+    }
+}
+
+// The slot of a start: its stream's, or the first free one; Share, Full. One walk over the slots.
 fn slot_for(table: &[u32; 32], port: u8, key: u32) -> Result<usize, Refusal>
     ensures meaning { slot_meaning result ≡ slot_for table.now port key }
     ensures inside { IfOk result (λ slot. slot < 16) }
 {
-    if let Some(slot) = find(table, key) {
-        return Ok(slot);
-    }
-    // By hand: million instructions for 1.28 million packets: this 151, `.filter(..).count()` 199, one `.enumerate()` loop for all three 187.
+    let mut free = None;
     let mut held: usize = 0;
     for slot in 0..16 {
-        if table[slot] / 0x1_0000 == port as u32 + 1 {
+        let here = table[slot];
+        if here == key {
+            return Ok(slot);
+        }
+        free = free.or((here == 0).then_some(slot));
+        if here / 0x1_0000 == port as u32 + 1 {
             held += 1;
         }
     }
     if 12 <= held {
         return Err(Refusal::Share);
     }
-    find(table, 0).ok_or(Refusal::Full)
+    free.ok_or(Refusal::Full)
 }
 
 impl OpenStreams<'_> {
@@ -149,7 +162,7 @@ impl OpenStreams<'_> {
         if output.len() < used + 4 {
             return Err(Refusal::Room.into());
         }
-        output[..used].copy_from_slice(stored);
+        copy_front(output, stored);
         output[used..used + 4].copy_from_slice(&arrival.words);
         self.table[slot] = 0;
         Ok(Received::HandedOut(used + 4))

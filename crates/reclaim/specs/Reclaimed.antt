@@ -45,7 +45,7 @@ abbrev pub Collector : Type 1
 Collector = List ℕ → Answer ℕ → List ℕ → Type 0
 
 pub record Reclaimed (Checks : Checker) (Restores : Restorer) (Describes : Describer) (Marks : Marker) (Collects : Collector) : Type 0 where
-  -- Each store and number have an outcome, so that nothing here is said of None (of restoring and describing: `Chained.answers`).
+  -- Each store and number have an outcome, so that nothing here is said of none (of restoring and describing: `Chained.answers`).
   pub answers : (store : List ℕ)
       → Answers (λ (answer : Answer ℕ) (left : Unit {0}). Checks store answer) × ((n : ℕ) → Answers (Marks store n)) × Answers (Collects store)
   -- A refusal leaves the store as it was.
@@ -106,7 +106,7 @@ pub record Reclaimed (Checks : Checker) (Restores : Restorer) (Describes : Descr
   -- Collecting again changes nothing further.
   pub collects_again : {store : List ℕ} {len : ℕ} {left : List ℕ} → Collects store (gives len) left
       → {answer : Answer ℕ} {after : List ℕ} → Collects (take len left) answer after → (answer ≡ gives len) × (after ≡ take len left)
-  -- Nothing less would do. Take a store made of dumps of this one that answers the same for a wanted dump, for Some words lent, and the
+  -- Nothing less would do. Take a store made of dumps of this one that answers the same for a wanted dump, for some words lent, and the
   -- answer is not Missing: it holds each dump of that walk. Nor would it do where the answer is Missing, as soon as what lacks is added:
   -- `more` stands behind both.
   pub fewest : (store other more : List ℕ) → sound store ≡ pass → sound other ≡ pass → PartOf other store

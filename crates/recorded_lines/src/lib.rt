@@ -66,16 +66,16 @@ fn store_numbers(field: &[u8], numbers: &mut [usize]) -> Option<usize>
     Some(count)
 }
 
-// Stores the numbers of a field in these values of another type. None also where one does not fit.
+// Stores the numbers of a field in these values of another type, by way of lent numbers. None also where one does not fit.
 // By way of numbers: the check makes no proof of a loop over `split` in a generic function.
 fn store_values<T: Copy + TryFrom<usize, Error = TryFromIntError>>(
     field: &[u8],
+    numbers: &mut [usize],
     values: &mut [T],
 ) -> Option<usize>
     ensures { IfSome result (λ count. count ≤ length values.old) }
 {
-    let mut numbers = [0usize; BYTES];
-    let count = store_numbers(field, &mut numbers)?;
+    let count = store_numbers(field, numbers)?;
     for at in 0..count {
         *values.get_mut(at)? = T::try_from(numbers[at]).ok()?;
     }
@@ -93,11 +93,12 @@ pub fn parse(
     ensures { RecordFits result (length words.old) (length bytes.old) (length numbers.old)
         (length expected.old) }
 {
+    let mut lent = [0usize; BYTES];
     let mut fields = line.split(|byte| *byte == b';');
     Some(Record {
         kind: number(fields.next()?)?,
-        words: store_values(fields.next()?, words)?,
-        bytes: store_values(fields.next()?, bytes)?,
+        words: store_values(fields.next()?, &mut lent, words)?,
+        bytes: store_values(fields.next()?, &mut lent, bytes)?,
         numbers: store_numbers(fields.next()?, numbers)?,
         answer: store_numbers(fields.next()?, expected)?,
         listed: fields.next().is_some(),

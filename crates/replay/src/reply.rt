@@ -41,20 +41,22 @@ impl TryFrom<usize> for Call {
 }
 
 impl Call {
-    // What ours answers to a record of this call; none to what is no record.
+    // What ours answers to a record of this call, by its kind; none to what is no record.
     pub(crate) fn reply(
         self,
+        kind: usize,
         words: &mut [u32],
         bytes: &[u8],
         numbers: &[usize],
-    ) -> Option<Answer> {
+        answer: &mut Answer<'_>,
+    ) -> Option<()> {
         let replied = match self {
-            Call::Packet(kind) => replayed_packets::reply(kind, words, numbers),
-            Call::Message(kind) => replayed_messages::reply(kind, words, bytes, numbers),
+            Call::Packet(_) => replayed_packets::reply(kind, words, numbers, answer),
+            Call::Message(_) => replayed_messages::reply(kind, words, bytes, numbers, answer),
         };
         match replied {
-            Ok(answer) => Some(answer),
-            Err(Stop::Refused(fault)) => Some(Answer::from(fault)),
+            Ok(()) => Some(()),
+            Err(Stop::Refused(fault)) => Some(answer.refuse(fault)),
             Err(Stop::NoRecord) => None,
         }
     }

@@ -8,7 +8,7 @@ use replayed_packets::answer::{Answer, Stop};
 const ROOM: usize = 16385;
 
 // Puts a changed message: all words lent, or the first three octets of each packet, and the payload.
-fn put_changed(answer: &mut Answer, kind: Kind, words: &[u32], length: usize) {
+fn put_changed(answer: &mut Answer<'_>, kind: Kind, words: &[u32], length: usize) {
     match kind {
         Kind::RepackLent | Kind::SpliceLent | Kind::SetPayloadLent => answer.put_words(words),
         _ => {
@@ -24,31 +24,35 @@ fn put_changed(answer: &mut Answer, kind: Kind, words: &[u32], length: usize) {
 pub(crate) fn change<F: FnOnce(&mut [u32]) -> Result<usize, Fault>>(
     kind: Kind,
     words: &mut [u32],
+    answer: &mut Answer<'_>,
     call: F,
-) -> Answer
+)
     requires { F.IsAlwaysCallable call }
 {
     match call(words) {
         Ok(length) => {
-            let mut answer = Answer::of(&[0, length]);
-            put_changed(&mut answer, kind, words, length);
-            answer
+            answer.say(&[0, length]);
+            put_changed(answer, kind, words, length);
         }
         Err(fault) => {
-            let mut answer = Answer::from(fault);
+            answer.refuse(fault);
             answer.put_words(words);
-            answer
         }
     }
 }
 
 // Writes a stream as SysEx7 packets, in as many words as are lent.
-pub(crate) fn to_sysex7(bytes: &[u8], group: usize, lent: usize) -> Result<Answer, Stop> {
+pub(crate) fn to_sysex7(
+    bytes: &[u8],
+    group: usize,
+    lent: usize,
+    answer: &mut Answer<'_>,
+) -> Result<(), Stop> {
     let group = u8::try_from(group)?;
     let mut room = [0; ROOM];
     let words = room.get_mut(..lent).ok_or(Stop::NoRecord)?;
     let count = stream::to_sysex7(bytes, group, words)?;
-    let mut answer = Answer::of(&[0]);
+    answer.say(&[0]);
     answer.put_all(words.iter().take(count).map(|word| *word as usize));
-    Ok(answer)
+    Ok(())
 }

@@ -52,41 +52,51 @@ impl TryFrom<usize> for Kind {
     }
 }
 
-// What ours answers to a record of a message in the first `length` words, or of a byte stream.
+// What ours answers to a record of a message in the first `length` words, or of a byte stream, of any kind.
 pub fn reply(
-    kind: Kind,
+    kind: usize,
     words: &mut [u32],
     bytes: &[u8],
     numbers: &[usize],
-) -> Result<Answer, Stop> {
+    answer: &mut Answer<'_>,
+) -> Result<(), Stop> {
+    let kind = Kind::try_from(kind)?;
     match (kind, numbers) {
-        (Kind::Check, [length]) => reads::check(words, *length),
-        (Kind::CheckLent, [length, lent]) => reads::check_lent(words, *length, *lent),
-        (Kind::CheckMany, [packets]) => reads::check_many(words, *packets),
-        (Kind::Read, [length, skips @ ..]) => reads::read(words, *length, skips),
-        (Kind::SetGroup, [length, value]) => store(words, *value, |words, value| {
+        (Kind::Check, [length]) => reads::check(words, *length, answer),
+        (Kind::CheckLent, [length, lent]) => reads::check_lent(words, *length, *lent, answer),
+        (Kind::CheckMany, [packets]) => reads::check_many(words, *packets, answer),
+        (Kind::Read, [length, skips @ ..]) => reads::read(words, *length, skips, answer),
+        (Kind::SetGroup, [length, value]) => store(words, *value, answer, |words, value| {
             message::sysex8::set_group(words, *length, value)
         }),
-        (Kind::SetStreamId, [length, value]) => store(words, *value, |words, value| {
+        (Kind::SetStreamId, [length, value]) => store(words, *value, answer, |words, value| {
             message::sysex8::set_stream_id(words, *length, value)
         }),
-        (Kind::SetByte, [length, index, value]) => store(words, *value, |words, value| {
+        (Kind::SetByte, [length, index, value]) => store(words, *value, answer, |words, value| {
             message::sysex8::set_byte(words, *length, *index, value)
         }),
-        (Kind::ToSysex7, [group, lent]) => changes::to_sysex7(bytes, *group, *lent),
-        (Kind::WordsNeeded, [size]) => Ok(Answer::of(&[splice::sysex8::words_needed(*size)])),
-        (Kind::Repack | Kind::RepackLent, [length]) => Ok(changes::change(kind, words, |words| {
-            splice::sysex8::repack(words, *length)
-        })),
+        (Kind::ToSysex7, [group, lent]) => changes::to_sysex7(bytes, *group, *lent, answer),
+        (Kind::WordsNeeded, [size]) => {
+            answer.say(&[splice::sysex8::words_needed(*size)]);
+            Ok(())
+        }
+        (Kind::Repack | Kind::RepackLent, [length]) => {
+            changes::change(kind, words, answer, |words| {
+                splice::sysex8::repack(words, *length)
+            });
+            Ok(())
+        }
         (Kind::Splice | Kind::SpliceLent, [length, from, to]) => {
-            Ok(changes::change(kind, words, |words| {
+            changes::change(kind, words, answer, |words| {
                 Ok(splice::sysex8::splice(words, *length, *from, *to, bytes)?.length)
-            }))
+            });
+            Ok(())
         }
         (Kind::SetPayload | Kind::SetPayloadLent, [length]) => {
-            Ok(changes::change(kind, words, |words| {
+            changes::change(kind, words, answer, |words| {
                 Ok(splice::sysex8::set_payload(words, *length, bytes)?.length)
-            }))
+            });
+            Ok(())
         }
         (_, _) => Err(Stop::NoRecord),
     }

@@ -6,7 +6,7 @@ use refusal::Fault;
 use std::num::TryFromIntError;
 
 // The room for an answer: one number over the longest that is recorded, so that one that fills it differs.
-const ROOM: usize = 2049;
+pub const ROOM: usize = 2049;
 
 // Why a call gives no answer of its own: the record is none, or the call refuses.
 #[derive(Clone, Copy, Debug, PartialEq, Eq)]
@@ -28,31 +28,30 @@ impl From<TryFromIntError> for Stop {
     }
 }
 
-// The numbers of an answer, in fixed memory: one past the room is dropped.
+// The numbers of an answer, in lent memory: one past the room is dropped. It is lent to what answers, and not handed on by value: a copy
+// at each step made the program take four times as many instructions.
 #[derive(Drop)]
-pub struct Answer {
-    room: [usize; ROOM],
+pub struct Answer<'a> {
+    room: &'a mut [usize; ROOM],
     count: usize,
     ghost fits: { count ≤ 2049 },
 }
 
-impl From<Fault> for Answer {
-    // A refusal: its number and place.
-    fn from(fault: Fault) -> Answer {
-        let refusal = fault.refusal;
-        Answer::of(&[usize::from(refusal::number(refusal)), fault.place])
+impl<'a> Answer<'a> {
+    // An answer of no numbers.
+    pub fn new(room: &'a mut [usize; ROOM]) -> Answer<'a> {
+        Answer { room, count: 0 }
     }
-}
 
-impl Answer {
-    // An answer of these numbers.
-    pub fn of(numbers: &[usize]) -> Answer {
-        let mut answer = Answer {
-            room: [0; ROOM],
-            count: 0,
-        };
-        answer.put_all(numbers.iter().copied());
-        answer
+    // Answers these numbers, in place of those that it has.
+    pub fn say(&mut self, numbers: &[usize]) {
+        self.count = 0;
+        self.put_all(numbers.iter().copied());
+    }
+
+    // Answers a refusal: its number and place.
+    pub fn refuse(&mut self, fault: Fault) {
+        self.say(&[usize::from(refusal::number(fault.refusal)), fault.place]);
     }
 
     // The numbers that it has.
@@ -88,14 +87,15 @@ impl Answer {
 pub fn store<F: FnOnce(&mut [u32], u8) -> Result<(), Fault>>(
     words: &mut [u32],
     value: usize,
+    answer: &mut Answer<'_>,
     call: F,
-) -> Result<Answer, Stop>
+) -> Result<(), Stop>
     requires { F.IsAlwaysCallable call }
 {
-    let mut answer = match call(words, u8::try_from(value)?) {
-        Ok(()) => Answer::of(&[0]),
-        Err(fault) => Answer::from(fault),
-    };
+    match call(words, u8::try_from(value)?) {
+        Ok(()) => answer.say(&[0]),
+        Err(fault) => answer.refuse(fault),
+    }
     answer.put_words(words);
-    Ok(answer)
+    Ok(())
 }

@@ -38,11 +38,17 @@ fn as_bit(value: usize) -> Result<bool, Stop> {
 }
 
 // The answer of a field of the one word.
-pub(crate) fn reply(kind: Kind, words: &[u32], numbers: &[usize]) -> Result<Answer, Stop> {
+pub(crate) fn reply(
+    kind: Kind,
+    words: &[u32],
+    numbers: &[usize],
+    answer: &mut Answer<'_>,
+) -> Result<(), Stop> {
     let number = match (words, numbers) {
         ([word], [index]) => read(kind, *word, *index)?,
         ([word], [index, value]) => set(kind, *word, *index, *value)? as usize,
         (_, _) => return Err(Stop::NoRecord),
     };
-    Ok(Answer::of(&[0, number]))
+    answer.say(&[0, number]);
+    Ok(())
 }

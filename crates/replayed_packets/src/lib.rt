@@ -5,7 +5,7 @@ pub mod answer;
 mod fields;
 mod packets;
 
-use answer::{Answer, Stop};
+use answer::{Answer, Stop, store};
 
 // A recorded call on a word field or a single packet.
 #[derive(Clone, Copy, Debug, PartialEq, Eq)]
@@ -55,13 +55,23 @@ impl TryFrom<usize> for Kind {
     }
 }
 
-// What ours answers to a record of a word field or of a single packet.
-pub fn reply(kind: Kind, words: &mut [u32], numbers: &[usize]) -> Result<Answer, Stop> {
+// What ours answers to a record of a word field or of a single packet, of any kind.
+pub fn reply(
+    kind: usize,
+    words: &mut [u32],
+    numbers: &[usize],
+    answer: &mut Answer<'_>,
+) -> Result<(), Stop> {
+    let kind = Kind::try_from(kind)?;
     match (kind, numbers) {
-        (Kind::Sysex8Packet, []) => packets::read_sysex8(words),
-        (Kind::Sysex7Packet, []) => packets::read_sysex7(words),
-        (Kind::SetSysex8Group, [group]) => answer::store(words, *group, packet::sysex8::set_group),
-        (Kind::SetSysex7Group, [group]) => answer::store(words, *group, packet::sysex7::set_group),
-        (_, _) => fields::reply(kind, words, numbers),
+        (Kind::Sysex8Packet, []) => packets::read_sysex8(words, answer),
+        (Kind::Sysex7Packet, []) => packets::read_sysex7(words, answer),
+        (Kind::SetSysex8Group, [group]) => {
+            store(words, *group, answer, packet::sysex8::set_group)
+        }
+        (Kind::SetSysex7Group, [group]) => {
+            store(words, *group, answer, packet::sysex7::set_group)
+        }
+        (_, _) => fields::reply(kind, words, numbers, answer),
     }
 }

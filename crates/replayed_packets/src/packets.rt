@@ -19,12 +19,13 @@ fn kind_number(kind: Kind) -> usize {
 fn numbers<F: Fn(usize) -> Result<u8, Fault>>(
     head: (Kind, u8, u8),
     size: usize,
+    answer: &mut Answer<'_>,
     byte: F,
-) -> Result<Answer, Stop>
+) -> Result<(), Stop>
     requires { F.IsAlwaysCallable byte }
 {
     let (kind, group, id) = head;
-    let mut answer = Answer::of(&[
+    answer.say(&[
         0,
         kind_number(kind),
         usize::from(group),
@@ -34,27 +35,29 @@ fn numbers<F: Fn(usize) -> Result<u8, Fault>>(
     for index in 0..size {
         answer.put(usize::from(byte(index)?));
     }
-    Ok(answer)
+    Ok(())
 }
 
 // Reads a SysEx8 packet.
-pub(crate) fn read_sysex8(words: &[u32]) -> Result<Answer, Stop> {
+pub(crate) fn read_sysex8(words: &[u32], answer: &mut Answer<'_>) -> Result<(), Stop> {
     let packet = packet::sysex8::read_packet(words)?;
     let head = (packet.kind, packet.group, packet.id);
     numbers(
         head,
         packet.size,
+        answer,
         |index| packet::sysex8::byte(words, index),
     )
 }
 
 // Reads a SysEx7 packet, which has no stream id: 0.
-pub(crate) fn read_sysex7(words: &[u32]) -> Result<Answer, Stop> {
+pub(crate) fn read_sysex7(words: &[u32], answer: &mut Answer<'_>) -> Result<(), Stop> {
     let packet = packet::sysex7::read_packet(words)?;
     let head = (packet.kind, packet.group, 0);
     numbers(
         head,
         packet.size,
+        answer,
         |index| packet::sysex7::byte(words, index),
     )
 }

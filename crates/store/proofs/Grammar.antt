@@ -12,7 +12,7 @@ use borrow.Author.Tests.{eq-eqb, ne_eqb, le-leb}
 use Rattle.ump.specs.Word.{pair_at}
 use Rattle.store.specs.Store.{is_whole, is_delta, is_edit, is_data, body_size, follows_by, allowed_by, follows, allowed, fits, well_formed}
 use Rattle.store.specs.Places.{record_at, next_at, records_from}
-use Rattle.store.specs.Meaning.{kind_of}
+use Rattle.store.specs.Meaning.{record_kind}
 use Rattle.store.specs.declared.format.Follow.{Follow}
 use Rattle.store.specs.declared.format.Kind.{Kind}
 use Rattle.store.specs.declared.format.Kind.TheVariants as kinds
@@ -20,14 +20,10 @@ use Rattle.store.proofs.Records.{data_other, records_end, records_step, body_byt
 
 -- ---- by kinds
 
-pub kind_data : (k : ℕ) → 129 ≤ k → k ≤ 141 → kinds.Data ≡ kind_of k
-unfolding is_data
-kind_data k h l =
-    let d : is_data k ≡ true = rw (le-leb 129 k h, le-leb k 141 l) in
-    let o = data_other k d in
-    rw (o.0, o.1.0, o.1.1, le-leb 129 k h, le-leb k 141 l)
+pub kind_data : (k : ℕ) → is_data k ≡ true → kinds.Data ≡ record_kind k
+kind_data k d = let o = data_other k d in rw (o.0, o.1.0, o.1.1, d)
 
-pub kind_other : (k : ℕ) → (k ≡ 1 ⊎ k ≡ 17 → ⊥) → (k ≡ 2 ⊎ k ≡ 18 → ⊥) → k ≢ 3 → is_data k ≡ false → kinds.Other ≡ kind_of k
+pub kind_other : (k : ℕ) → (k ≡ 1 ⊎ k ≡ 17 → ⊥) → (k ≡ 2 ⊎ k ≡ 18 → ⊥) → k ≢ 3 → is_data k ≡ false → kinds.Other ≡ record_kind k
 kind_other k a b c d =
     rw (ne_eqb k 1 (λ e. a (inl e)), ne_eqb k 17 (λ e. a (inr e)), ne_eqb k 2 (λ e. b (inl e)), ne_eqb k 18 (λ e. b (inr e)), ne_eqb k 3 c, d)
 
@@ -40,7 +36,7 @@ module _ (f : Follow) where
   after_kind kinds.Data to = f
   after_kind kinds.Other to = f
 
-  pub after_by : (k to : ℕ) → {kind : Kind} → kind ≡ kind_of k → after_kind kind to ≡ follows_by f k to
+  pub after_by : (k to : ℕ) → {kind : Kind} → kind ≡ record_kind k → after_kind kind to ≡ follows_by f k to
   unfolding follows_by
   after_by k to e = rw e (go (is_whole k) (is_delta k) (is_edit k) (is_data k))
     where
@@ -60,7 +56,7 @@ module _ (f : Follow) where
   kind_allowed kinds.Data group from = f.bytes
   kind_allowed kinds.Other group from = false
 
-  pub allow_by : (k group from : ℕ) → {kind : Kind} → kind ≡ kind_of k → kind_allowed kind group from ≡ allowed_by f k group from
+  pub allow_by : (k group from : ℕ) → {kind : Kind} → kind ≡ record_kind k → kind_allowed kind group from ≡ allowed_by f k group from
   unfolding allowed_by
   allow_by k group from e = rw e (go (is_whole k) (is_delta k) (is_edit k) (is_data k))
     where

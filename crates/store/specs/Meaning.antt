@@ -9,8 +9,8 @@ use Rattle.store.specs.Store.{is_whole, is_delta, is_edit, is_data, check_store,
 use Rattle.store.specs.Places.{next_at, dump_at, DumpBegins, Noted, Entering}
 
 -- what a record is, by its kind
-abbrev pub kind_of : ℕ → Kind
-kind_of k = cond (is_whole k) kind.Whole (cond (is_delta k) kind.Delta (cond (is_edit k) kind.Edit (cond (is_data k) kind.Data kind.Other)))
+abbrev pub record_kind : ℕ → Kind
+record_kind k = cond (is_whole k) kind.Whole (cond (is_delta k) kind.Delta (cond (is_edit k) kind.Edit (cond (is_data k) kind.Data kind.Other)))
 
 -- the check's answer, and the places of the dumps where it is accepted and there is room for them
 pub record Indexes (store : List ℕ) (r : (Result ℕ Fault)) (places : List ℕ) : Type 0 where

@@ -59,7 +59,7 @@ pub fn body_size(kind: u8) -> usize
     ensures { (result ≡ body_size kind) × (result < 14) }
 {
     if is_data(kind) {
-        return usize::from(kind - 0x80);
+        return usize::from(kind) - 0x80;
     }
     4
 }

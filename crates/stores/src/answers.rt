@@ -1,6 +1,7 @@
-// What the calls answer to a store, compared with what document 02 says. All words lent are nines.
+// What the calls answer to a store, compared with what document 02 says.
 use chain::Description;
 use equality::padded::padded_words;
+use equality::words::same_words;
 use refusal::Refusal;
 
 // The check of this store gives so many dumps.
@@ -24,14 +25,19 @@ pub fn restores(store: &[u8], number: usize, message: &[u32]) -> bool {
 }
 
 // Restoring the dump of this number is refused so, and leaves the words.
-pub fn refuses_in(store: &[u8], number: usize, words: &mut [u32], refusal: Refusal) -> bool {
-    restore::restore(store, number, words) == Err(refusal.into())
-        && words.iter().all(|word| *word == 9)
+pub fn refuses_in(
+    store: &[u8],
+    number: usize,
+    words: &mut [u32],
+    before: &[u32],
+    refusal: Refusal,
+) -> bool {
+    restore::restore(store, number, words) == Err(refusal.into()) && same_words(words, before)
 }
 
 // The same, with eight words lent.
 pub fn restore_refuses(store: &[u8], number: usize, refusal: Refusal) -> bool {
-    refuses_in(store, number, &mut [9; 8], refusal)
+    refuses_in(store, number, &mut [9; 8], &[9; 8], refusal)
 }
 
 // Describing the dump of this number is refused so.

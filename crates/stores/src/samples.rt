@@ -34,22 +34,35 @@ pub trait Given {
     fn is_given(&self, store: &[u8]) -> bool;
 }
 
+// The dump of this number is restored to this message, with so many words lent.
+fn restores_lent(store: &[u8], lent: usize, number: usize, message: &[u32]) -> bool {
+    match [9; LENT].get_mut(..lent) {
+        Some(words) => answers::restores_in(store, number, words, message),
+        None => false,
+    }
+}
+
+// Restoring the dump of this number is refused so, with so many words lent, and leaves them.
+fn refuses_lent(store: &[u8], lent: usize, number: usize, refusal: Refusal) -> bool {
+    match [9; LENT].get_mut(..lent) {
+        Some(words) => answers::refuses_in(store, number, words, &[9; LENT][..lent], refusal),
+        None => false,
+    }
+}
+
 impl<'a> Given for Answer<'a> {
     fn is_given(&self, store: &[u8]) -> bool {
-        let mut words = [9; LENT];
         match *self {
             Answer::Dumps(count) => answers::check_gives(store, count),
             Answer::Unsound(refusal) => answers::is_unsound(store, refusal),
             Answer::Message(number, message) => answers::restores(store, number, message),
-            Answer::MessageIn(lent, number, message) => match words.get_mut(..lent) {
-                Some(words) => answers::restores_in(store, number, words, message),
-                None => false,
-            },
+            Answer::MessageIn(lent, number, message) => {
+                restores_lent(store, lent, number, message)
+            }
             Answer::Refused(number, refusal) => answers::refuses(store, number, refusal),
-            Answer::RefusedIn(lent, number, refusal) => match words.get_mut(..lent) {
-                Some(words) => answers::refuses_in(store, number, words, refusal),
-                None => false,
-            },
+            Answer::RefusedIn(lent, number, refusal) => {
+                refuses_lent(store, lent, number, refusal)
+            }
             Answer::Described(number, description) => {
                 answers::describes(store, number, description)
             }

@@ -1,5 +1,6 @@
 // Samples of clock bytes inside a dump.
 use crate::plain::{refuses, writes};
+use equality::words::same_words;
 use refusal::Refusal;
 use std::array;
 
@@ -84,13 +85,24 @@ fn rare_byte(at: usize) -> u8 {
     }
 }
 
-// 49,152 data bytes with a clock byte between all of them fill 16,384 words; looked at are the first two and the last two packets.
+// The first two and the last two packets of 16,384 words are those of data that counts up.
+fn has_ends(words: &[u32]) -> bool {
+    words.len() == 16384
+        && same_words(
+            &words[..4],
+            &[0x3016_0001, 0x0203_0405, 0x3026_0607, 0x0809_0A0B],
+        )
+        && same_words(
+            &words[16380..],
+            &[0x3026_7475, 0x7677_7879, 0x3036_7A7B, 0x7C7D_7E7F],
+        )
+}
+
+// 49,152 data bytes with a clock byte between all of them fill 16,384 words.
 pub(crate) fn full() -> bool {
     let bytes: [u8; CLOCKED] = array::from_fn(|at| clocked_byte(at, CLOCKED - 1));
     let mut words = [9; 16384];
-    stream::to_sysex7(&bytes, 0, &mut words) == Ok(16384)
-        && words.starts_with(&[0x3016_0001, 0x0203_0405, 0x3026_0607, 0x0809_0A0B])
-        && words.ends_with(&[0x3026_7475, 0x7677_7879, 0x3036_7A7B, 0x7C7D_7E7F])
+    stream::to_sysex7(&bytes, 0, &mut words) == Ok(16384) && has_ends(&words)
 }
 
 // One data byte more: 14, and no word changes.
@@ -98,7 +110,7 @@ pub(crate) fn no_room() -> bool {
     let bytes: [u8; CLOCKED + 2] = array::from_fn(|at| clocked_byte(at, CLOCKED + 1));
     let mut words = [9; 16384];
     stream::to_sysex7(&bytes, 0, &mut words) == Err(Refusal::Room.into())
-        && words.iter().all(|word| *word == 9)
+        && same_words(&words, &[9; 16384])
 }
 
 // A million clock bytes around three data bytes: one packet.

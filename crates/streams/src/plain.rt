@@ -1,15 +1,17 @@
 // Samples of byte streams without real-time bytes, and what all samples use.
+use equality::words::same_words;
 use refusal::{Fault, Refusal};
 
 // This stream in group 0 becomes so many words, and leaves the words expected.
 pub(crate) fn writes(bytes: &[u8], words: &mut [u32], length: usize, expected: &[u32]) -> bool {
-    stream::to_sysex7(bytes, 0, words) == Ok(length) && &*words == expected
+    stream::to_sysex7(bytes, 0, words) == Ok(length) && same_words(words, expected)
 }
 
 // This stream is refused so, and the words stay.
 pub(crate) fn refuses(bytes: &[u8], refusal: Refusal, place: usize) -> bool {
     let mut words = [9, 9];
-    stream::to_sysex7(bytes, 0, &mut words) == Err(Fault { refusal, place }) && words == [9, 9]
+    stream::to_sysex7(bytes, 0, &mut words) == Err(Fault { refusal, place })
+        && same_words(&words, &[9, 9])
 }
 
 // F0 01..07 F7, group 0: 30160102 03040506 30310700 0; the word behind stays.

@@ -13,5 +13,5 @@ pub fn same_numbers(numbers: &[usize], expected: &[usize]) -> bool
 pub fn begin_with(numbers: &[usize], count: usize, expected: &[usize]) -> bool
     ensures { Tells result (Begins numbers.now count expected.now) }
 {
-    count <= numbers.len() && &numbers[..count] == expected
+    count <= numbers.len() && same_numbers(&numbers[..count], expected)
 }

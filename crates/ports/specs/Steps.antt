@@ -35,7 +35,7 @@ slot_for table port key =
 -- a packet of a kind: the answer, and the streams and the output after it; the same table and words are lent
 abbrev pub Accepts : Kind → Arrival → OpenStreams → List ℕ → Result Received Fault → OpenStreams → List ℕ → Type 0
 Accepts kind arrival streams output r streams' output' =
-    ((received_meaning r, (streams'.table.now, streams'.words.now, output')) ≡ accept kind arrival.port arrival.key streams.table.now streams.words.now arrival.words output)
+    ((received_meaning r, (streams'.table.now, streams'.words.now, output')) ≡ accept kind arrival.port arrival.key streams.table.now streams.words.now arrival.words.now output)
     × (streams'.table.ghost_name ≡ streams.table.ghost_name)
     × (streams'.words.ghost_name ≡ streams.words.ghost_name)
 

@@ -22,25 +22,25 @@ pub enum Received {
     HandedOut(usize),
 }
 
-// A packet that came at a port: the key of its stream, and its four words.
+// A packet that came at a port: the key of its stream, and its four words, as they are lent.
 #[derive(Clone, Copy)]
-struct Arrival {
+struct Arrival<'a> {
     port: u8,
     key: u32,
-    words: [u32; 4],
+    words: &'a [u32; 4],
 }
 
-impl Arrival {
+impl<'a> Arrival<'a> {
     // A packet that was read, of at least four words.
-    fn new(port: u8, read: Packet, packet: &[u32]) -> Arrival
+    fn new(port: u8, read: Packet, packet: &'a [u32]) -> Arrival<'a>
         requires { 4 ≤ length packet.now }
-        ensures { (result.port ≡ port) × (result.key ≡ key_of port read.group read.id) × (result.words ≡ take 4 packet.now) }
+        ensures { (result.port ≡ port) × (result.key ≡ key_of port read.group read.id) × (result.words.now ≡ take 4 packet.now) }
     {
         let key = (port as u32 + 1) * 0x1_0000 + read.group as u32 * 256 + read.id as u32;
         Arrival {
             port,
             key,
-            words: [packet[0], packet[1], packet[2], packet[3]],
+            words: packet.first_chunk().unwrap(),
         }
     }
 }
@@ -75,7 +75,7 @@ fn used_of(table: &[u32; 32], part: usize, slot: usize) -> usize
 }
 
 // Copies words to the front of others.
-// Word by word: the slices' own copy calls `memcpy`, and of the C library the calls need `memset` alone (README).
+// Word by word: the slices' own copy calls `memmove`, and of the C library the calls need `memset` alone (README).
 fn copy_front(to: &mut [u32], from: &[u32])
     requires { length from.now ≤ length to.old }
     ensures { to.new ≡ from.now ++ drop (length from.now) to.old }
@@ -110,9 +110,10 @@ fn slot_for(table: &[u32; 32], port: u8, key: u32) -> Result<usize, Refusal>
 
 impl OpenStreams<'_> {
     // A start: Share, Full, Room; its packet is the first of its part.
-    fn begin(&mut self, arrival: Arrival) -> Result<Received, Fault>
-        ensures { AcceptedAs start arrival self.old result self.new }
+    fn begin(&mut self, arrival: Arrival<'_>) -> Result<Received, Fault>
+        ensures { AcceptedAs start arrival.entry self.old result self.new }
     {
+        let packet = arrival.words;
         let slot = slot_for(self.table, arrival.port, arrival.key)?;
         let part = self.words.len() / 16;
         if part < 4 {
@@ -121,15 +122,16 @@ impl OpenStreams<'_> {
         self.table[slot] = arrival.key;
         self.table[16 + slot] = 4;
         let at = part * slot;
-        self.words[at..at + 4].copy_from_slice(&arrival.words);
+        self.words[at..at + 4].copy_from_slice(packet);
         Ok(Received::Kept)
     }
 
     // A continue: Closed, Room; its packet stands behind those of its part.
-    fn append(&mut self, arrival: Arrival) -> Result<Received, Fault>
+    fn append(&mut self, arrival: Arrival<'_>) -> Result<Received, Fault>
         requires { length self.old.words.now ≤ most_words }
-        ensures { AcceptedAs continue arrival self.old result self.new }
+        ensures { AcceptedAs continue arrival.entry self.old result self.new }
     {
+        let packet = arrival.words;
         let slot = find(self.table, arrival.key).ok_or(Refusal::Closed)?;
         let part = self.words.len() / 16;
         let used = used_of(self.table, part, slot);
@@ -138,7 +140,7 @@ impl OpenStreams<'_> {
         }
         self.table[16 + slot] = (used + 4) as u32;
         let at = part * slot + used;
-        self.words[at..at + 4].copy_from_slice(&arrival.words);
+        self.words[at..at + 4].copy_from_slice(packet);
         Ok(Received::Kept)
     }
 
@@ -153,9 +155,10 @@ impl OpenStreams<'_> {
     }
 
     // An end: Closed, Room; the packets of its part and its own are handed out, and the slot is free.
-    fn hand_out(&mut self, arrival: Arrival, output: &mut [u32]) -> Result<Received, Fault>
-        ensures { Accepts end arrival self.old output.old result self.new output.new }
+    fn hand_out(&mut self, arrival: Arrival<'_>, output: &mut [u32]) -> Result<Received, Fault>
+        ensures { Accepts end arrival.entry self.old output.old result self.new output.new }
     {
+        let packet = arrival.words;
         let slot = find(self.table, arrival.key).ok_or(Refusal::Closed)?;
         let stored = self.stored(slot);
         let used = stored.len();
@@ -163,14 +166,14 @@ impl OpenStreams<'_> {
             return Err(Refusal::Room.into());
         }
         copy_front(output, stored);
-        output[used..used + 4].copy_from_slice(&arrival.words);
+        output[used..used + 4].copy_from_slice(packet);
         self.table[slot] = 0;
         Ok(Received::HandedOut(used + 4))
     }
 
     // An end with invalid earlier data: Closed; the slot is free.
-    fn drop_stream(&mut self, arrival: Arrival) -> Result<Received, Fault>
-        ensures { AcceptedAs (unexpected_end false) arrival self.old result self.new }
+    fn drop_stream(&mut self, arrival: Arrival<'_>) -> Result<Received, Fault>
+        ensures { AcceptedAs (unexpected_end false) arrival.entry self.old result self.new }
     {
         let slot = find(self.table, arrival.key).ok_or(Refusal::Closed)?;
         self.table[slot] = 0;
@@ -178,13 +181,14 @@ impl OpenStreams<'_> {
     }
 
     // A complete packet: Room; it is handed out, and an open stream of its key is closed.
-    fn pass_on(&mut self, arrival: Arrival, output: &mut [u32]) -> Result<Received, Fault>
-        ensures { Accepts complete arrival self.old output.old result self.new output.new }
+    fn pass_on(&mut self, arrival: Arrival<'_>, output: &mut [u32]) -> Result<Received, Fault>
+        ensures { Accepts complete arrival.entry self.old output.old result self.new output.new }
     {
+        let packet = arrival.words;
         if output.len() < 4 {
             return Err(Refusal::Room.into());
         }
-        output[..4].copy_from_slice(&arrival.words);
+        output[..4].copy_from_slice(packet);
         if let Some(slot) = find(self.table, arrival.key) {
             self.table[slot] = 0;
         }
@@ -195,11 +199,11 @@ impl OpenStreams<'_> {
     fn accept(
         &mut self,
         kind: Kind,
-        arrival: Arrival,
+        arrival: Arrival<'_>,
         output: &mut [u32],
     ) -> Result<Received, Fault>
         requires { length self.old.words.now ≤ most_words }
-        ensures { Accepts (kind_meaning kind) arrival self.old output.old result self.new output.new }
+        ensures { Accepts (kind_meaning kind) arrival.entry self.old output.old result self.new output.new }
     {
         match kind {
             Kind::Complete => self.pass_on(arrival, output),

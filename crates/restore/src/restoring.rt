@@ -29,7 +29,7 @@ fn copy(to: &mut [u8], done: usize, from: &[u8], start: usize, count: usize)
     requires { (done + count ≤ length to.old) × (start + count ≤ length from.now) }
     ensures { to.new ≡ paste to.old done (drop start from.now) count }
 {
-    // Byte by byte: the slices' own copy calls `memcpy`, and of the C library the calls need `memset` alone (README).
+    // Byte by byte: the slices' own copy calls `memmove`, and of the C library the calls need `memset` alone (README).
     for index in 0..count {
         to[done + index] = from[start + index];
     }

@@ -15,5 +15,5 @@ returns-then-output-used c =
 pub returns : goal.returns
 returns c =
     let is = sym c.find.ensures ∙ c.in_ok-slot.ensures.ok_part in
-    let four : length c.args.arrival.words ≡ 4 = omega (arith, c.copy_from_slice.ensures.len, ap length c.copy_from_slice.ensures.after) in
+    let four : length c.args.arrival.words.now ≡ 4 = omega (arith, c.copy_from_slice.ensures.len, ap length c.copy_from_slice.ensures.after) in
     (rw (c.copy_front.ensures, c.copy_from_slice.ensures.after) (end_done _ _ _ _ _ _ four is c.stored-stored.ensures c.if-output-used.false), refl, refl)

@@ -4,6 +4,7 @@
 
 pub mod many;
 
+use compare::{Numbered, refuses};
 use equality::words::same_words;
 use ports::Received;
 use refusal::{Fault, Refusal};
@@ -82,14 +83,14 @@ impl Desk {
     }
 
     // The packet is refused so, and nothing changes.
-    pub fn refuse_words(&mut self, port: u8, packet: &[u32], refusal: Refusal) {
+    pub fn refuse_words(&mut self, port: u8, packet: &[u32], refusal: impl Numbered) {
         let before = *self;
         let received = self.call(port, packet);
-        self.right &= received == Err(refusal.into()) && self.has_stayed(&before);
+        self.right &= refuses(&received, refusal.number(), 0) && self.has_stayed(&before);
     }
 
     // The same of the packet with this first word.
-    pub fn refuse(&mut self, port: u8, head: u32, refusal: Refusal) {
+    pub fn refuse(&mut self, port: u8, head: u32, refusal: impl Numbered) {
         self.refuse_words(port, &packet(head), refusal);
     }
 

@@ -1,7 +1,7 @@
 // Answers compared with what document 01 says, and the line of a sample.
 #![tactic(auto)]
 
-ghost use Rattle.std.specs.Prelude.{◌≡◌, [], ◌∷◌, length, replicate};
+ghost use Rattle.std.specs.Prelude.{◌≡◌, ℕ, [], ◌∷◌, length, replicate};
 ghost use Rattle.refusal.specs.Answer.{gives, refused};
 ghost use Rattle.refusal.specs.Number.{number_of};
 ghost use Rattle.ump.specs.Packet.{sysex8};
@@ -16,7 +16,7 @@ ghost use Rattle.compare.specs.Facts.{code_of, Says, Reads, Hands};
 ghost use Rattle.refusal.specs.Meaning.{answer_of};
 
 use packet::{Earlier, Kind};
-use refusal::Fault;
+use refusal::{Fault, Refusal};
 use std::io;
 
 // P5's message.
@@ -52,8 +52,33 @@ pub fn is_fault(fault: Fault, number: u8, place: usize) -> bool
     refusal::number(fault.refusal) == number && fault.place == place
 }
 
+// What has a refusal's number: the refusal, or the number itself, which may be one that no refusal has.
+pub trait Numbered: Copy {
+    ghost number_is: { Self → ℕ };
+
+    // The number.
+    fn number(self) -> u8
+        ensures { result ≡ number_is self };
+}
+
+impl Numbered for Refusal {
+    ghost number_is = { number_of };
+
+    fn number(self) -> u8 {
+        refusal::number(self)
+    }
+}
+
+impl Numbered for u8 {
+    ghost number_is = { λ number. number };
+
+    fn number(self) -> u8 {
+        self
+    }
+}
+
 // The answer refuses with this number and place.
-fn refuses<T>(answer: &Result<T, Fault>, number: u8, place: usize) -> bool
+pub fn refuses<T>(answer: &Result<T, Fault>, number: u8, place: usize) -> bool
     ensures { Tells result (answer_of answer.now ≡ refused number place) }
 {
     match answer {

@@ -223,14 +223,12 @@ pub fn status_for(packets: usize, packet: usize) -> u8
     }
 }
 
-// The payload bytes that a count carries: the count less the bias, and none for a count out of range.
+// The payload bytes that a count carries: the count less the bias, and none for a count out of range. Below the bias the difference wraps
+// around, past the room too, so that one test finds both ends: a walk over packets does little else.
 pub fn payload_size<F: Format>(count: usize) -> usize
     ensures { result ≡ size_of F.shape count }
 {
-    if count < F::BIAS {
-        return 0;
-    }
-    let size = count - F::BIAS;
+    let size = count.wrapping_sub(F::BIAS);
     if size <= F::ROOM { size } else { 0 }
 }
 

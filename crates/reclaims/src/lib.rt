@@ -4,6 +4,7 @@
 pub mod many;
 pub mod samples;
 
+use compare::{Numbered, refuses};
 use equality::padded::padded_bytes;
 use refusal::Refusal;
 use stores::answers::check_refuses;
@@ -14,8 +15,13 @@ pub fn marks_in(lent: &mut [u8], number: usize, after: &[u8]) -> bool {
 }
 
 // Marking the dump of this number is refused so, and leaves the bytes.
-pub fn mark_refuses_in(lent: &mut [u8], number: usize, before: &[u8], refusal: Refusal) -> bool {
-    reclaim::mark(lent, number) == Err(refusal.into()) && &*lent == before
+pub fn mark_refuses_in(
+    lent: &mut [u8],
+    number: usize,
+    before: &[u8],
+    refusal: impl Numbered,
+) -> bool {
+    refuses(&reclaim::mark(lent, number), refusal.number(), 0) && &*lent == before
 }
 
 // Collecting answers the length of these bytes, and leaves them and then zeros.
@@ -40,6 +46,6 @@ pub fn collects_in(lent: &mut [u8], kept: &[u8]) -> bool {
 }
 
 // Collecting is refused so, and leaves the bytes.
-pub fn collect_refuses_in(lent: &mut [u8], before: &[u8], refusal: Refusal) -> bool {
-    reclaim::collect(lent) == Err(refusal.into()) && &*lent == before
+pub fn collect_refuses_in(lent: &mut [u8], before: &[u8], refusal: impl Numbered) -> bool {
+    refuses(&reclaim::collect(lent), refusal.number(), 0) && &*lent == before
 }

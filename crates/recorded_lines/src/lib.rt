@@ -2,10 +2,8 @@
 // Numbers are upper-case hex, those of a list one space apart; an empty field is an empty list.
 #![tactic(auto)]
 
-ghost use Rattle.std.specs.Prelude.{◌≤◌, length, IfSome};
+ghost use Rattle.std.specs.Prelude.{◌≡◌, ◌≤◌, ◌<◌, suc, length, IfSome};
 ghost use Rattle.recorded_lines.specs.Fits.{RecordFits};
-
-use std::num::TryFromIntError;
 
 // The most words of a record.
 pub const WORDS: usize = 512;
@@ -30,8 +28,13 @@ pub struct Record {
     pub listed: bool,
 }
 
+// The largest number that a digit can be put to.
+const MOST: usize = usize::MAX / 16;
+
 // The value of an upper-case hex digit.
-fn digit_of(byte: u8) -> Option<usize> {
+fn digit_of(byte: u8) -> Option<usize>
+    ensures { IfSome result (λ digit. digit < 16) }
+{
     match byte {
         b'0'..=b'9' => Some((byte - b'0') as usize),
         b'A'..=b'F' => Some((byte - b'A' + 10) as usize),
@@ -39,47 +42,50 @@ fn digit_of(byte: u8) -> Option<usize> {
     }
 }
 
-// The number of these digits, none or more; None for what is no digit, or a number that does not fit.
-fn number(digits: &[u8]) -> Option<usize> {
-    let mut value = 0usize;
-    for digit in digits {
-        value = value.checked_mul(16)?.checked_add(digit_of(*digit)?)?;
-    }
-    Some(value)
-}
-
-// Stores the numbers of a field, one space apart; answers how many. None where the field is no list of numbers, or they are too many.
-fn store_numbers(field: &[u8], numbers: &mut [usize]) -> Option<usize>
-    ensures { IfSome result (λ count. count ≤ length numbers.old) }
-{
-    let mut count = 0;
-    if field.is_empty() {
-        return Some(count);
-    }
-    for digits in field.split(|byte| *byte == b' ') {
-        if digits.is_empty() {
+// The number of the digits that a text begins with, none or more, and what stands behind them. None where it does not fit.
+fn first_number(text: &[u8]) -> Option<(usize, &[u8])> {
+    let mut number = 0;
+    for (at, byte) in text.iter().enumerate() {
+        let Some(digit) = digit_of(*byte) else {
+            return Some((number, &text[at..]));
+        };
+        if number > MOST {
             return None;
         }
-        *numbers.get_mut(count)? = number(digits)?;
-        count += 1;
+        number = number * 16 + digit;
     }
-    Some(count)
+    Some((number, &[]))
 }
 
-// Stores the numbers of a field in these values of another type, by way of lent numbers. None also where one does not fit.
-// By way of numbers: the check makes no proof of a loop over `split` in a generic function.
-fn store_values<T: Copy + TryFrom<usize, Error = TryFromIntError>>(
-    field: &[u8],
-    numbers: &mut [usize],
+// Stores the numbers of the first field of a line, one space apart; answers how many, and what stands behind the field's ; if it has one.
+// None where the field is no list of numbers, one does not fit, or they are too many.
+fn store_numbers<'a, T: Copy + TryFrom<usize>>(
+    line: &'a [u8],
     values: &mut [T],
-) -> Option<usize>
-    ensures { IfSome result (λ count. count ≤ length values.old) }
+) -> Option<(usize, Option<&'a [u8]>)>
+where
+    T::Error: Drop,
+    ensures { IfSome result (λ read. read.0 ≤ length values.old) }
 {
-    let count = store_numbers(field, numbers)?;
-    for at in 0..count {
-        *values.get_mut(at)? = T::try_from(numbers[at]).ok()?;
+    let mut rest = match line {
+        [] => return Some((0, None)),
+        [b';', behind @ ..] => return Some((0, Some(behind))),
+        _ => line,
+    };
+    for (at, value) in values.iter_mut().enumerate() {
+        let (number, behind) = first_number(rest)?;
+        if behind.len() == rest.len() {
+            return None;
+        }
+        *value = T::try_from(number).ok()?;
+        rest = match behind {
+            [] => return Some((at + 1, None)),
+            [b';', behind @ ..] => return Some((at + 1, Some(behind))),
+            [b' ', behind @ ..] => behind,
+            _ => return None,
+        };
     }
-    Some(count)
+    None // They are too many.
 }
 
 // Takes a line apart into these slices.
@@ -93,14 +99,18 @@ pub fn parse(
     ensures { RecordFits result (length words.old) (length bytes.old) (length numbers.old)
         (length expected.old) }
 {
-    let mut lent = [0usize; BYTES];
-    let mut fields = line.split(|byte| *byte == b';');
+    let mut kind = [0];
+    let (_, behind) = store_numbers(line, &mut kind)?;
+    let (word_count, behind) = store_numbers(behind?, words)?;
+    let (byte_count, behind) = store_numbers(behind?, bytes)?;
+    let (number_count, behind) = store_numbers(behind?, numbers)?;
+    let (answer_count, behind) = store_numbers(behind?, expected)?;
     Some(Record {
-        kind: number(fields.next()?)?,
-        words: store_values(fields.next()?, &mut lent, words)?,
-        bytes: store_values(fields.next()?, &mut lent, bytes)?,
-        numbers: store_numbers(fields.next()?, numbers)?,
-        answer: store_numbers(fields.next()?, expected)?,
-        listed: fields.next().is_some(),
+        kind: kind[0],
+        words: word_count,
+        bytes: byte_count,
+        numbers: number_count,
+        answer: answer_count,
+        listed: behind.is_some(),
     })
 }

@@ -1,7 +1,10 @@
 // A record: what ours answers, compared with what is recorded.
-use crate::reply::Call;
+use crate::reply::{Call, reply};
 use equality::numbers::begin_with;
-use replayed_packets::answer::{Answer, ROOM};
+use replayed_packets::answer::Answer;
+
+// Room for our answer: one number over the longest that is recorded, so that one that fills it differs.
+const ROOM: usize = recorded_lines::ANSWER + 1;
 
 // A record's call, whether it is of a listed difference, and whether ours answers as recorded.
 #[derive(Clone, Copy, Debug, PartialEq, Eq)]
@@ -19,19 +22,18 @@ pub(crate) fn replay(line: &[u8]) -> Option<Compared> {
     let mut expected = [0; recorded_lines::ANSWER];
     let mut room = [0; ROOM];
     let record = recorded_lines::parse(line, &mut words, &mut bytes, &mut numbers, &mut expected)?;
-    let call = Call::try_from(record.kind).ok()?;
     let mut answer = Answer::new(&mut room);
-    call.reply(
+    let call = reply(
         record.kind,
         &mut words[..record.words],
         &bytes[..record.bytes],
         &numbers[..record.numbers],
         &mut answer,
     )?;
-    let numbers = answer.numbers();
+    let count = answer.numbers().len();
     Some(Compared {
         call,
         listed: record.listed,
-        same: begin_with(numbers, numbers.len(), &expected[..record.answer]),
+        same: begin_with(&room, count, &expected[..record.answer]),
     })
 }

@@ -40,24 +40,25 @@ impl TryFrom<usize> for Call {
     }
 }
 
-impl Call {
-    // What ours answers to a record of this call, by its kind; none to what is no record.
-    pub(crate) fn reply(
-        self,
-        kind: usize,
-        words: &mut [u32],
-        bytes: &[u8],
-        numbers: &[usize],
-        answer: &mut Answer<'_>,
-    ) -> Option<()> {
-        let replied = match self {
-            Call::Packet(_) => replayed_packets::reply(kind, words, numbers, answer),
-            Call::Message(_) => replayed_messages::reply(kind, words, bytes, numbers, answer),
-        };
-        match replied {
-            Ok(()) => Some(()),
-            Err(Stop::Refused(fault)) => Some(answer.refuse(fault)),
-            Err(Stop::NoRecord) => None,
+// Puts what ours answers to a record of a kind, and says which call it is of; none where it is no record, and nothing then counts.
+pub(crate) fn reply(
+    kind: usize,
+    words: &mut [u32],
+    bytes: &[u8],
+    numbers: &[usize],
+    answer: &mut Answer<'_>,
+) -> Option<Call> {
+    let call = Call::try_from(kind).ok()?;
+    let replied = match call {
+        Call::Packet(_) => replayed_packets::reply(kind, words, numbers, answer),
+        Call::Message(_) => replayed_messages::reply(kind, words, bytes, numbers, answer),
+    };
+    match replied {
+        Ok(()) => Some(call),
+        Err(Stop::Refused(fault)) => {
+            answer.refuse(fault);
+            Some(call)
         }
+        Err(Stop::NoRecord) => None,
     }
 }

@@ -52,7 +52,8 @@ impl TryFrom<usize> for Kind {
     }
 }
 
-// What ours answers to a record of a message in the first `length` words, or of a byte stream, of any kind.
+// Puts what ours answers to a record of a message in the first `length` words, or of a byte stream. The kind is any number: NoRecord where
+// none of these calls has it, or not with so many numbers. A refusal of a call that only reads is the caller's to put.
 pub fn reply(
     kind: usize,
     words: &mut [u32],

@@ -1,12 +1,9 @@
 // An answer as numbers, and why there may be none.
 ghost use Rattle.std.specs.Iterator.{IsFinite};
-ghost use Rattle.std.specs.Prelude.{◌≤◌};
+ghost use Rattle.std.specs.Prelude.{◌≤◌, length};
 
 use refusal::Fault;
 use std::num::TryFromIntError;
-
-// The room for an answer: one number over the longest that is recorded, so that one that fills it differs.
-pub const ROOM: usize = 2049;
 
 // Why a call gives no answer of its own: the record is none, or the call refuses.
 #[derive(Clone, Copy, Debug, PartialEq, Eq)]
@@ -28,18 +25,18 @@ impl From<TryFromIntError> for Stop {
     }
 }
 
-// The numbers of an answer, in lent memory: one past the room is dropped. It is lent to what answers, and not handed on by value: a copy
-// at each step made the program take four times as many instructions.
+// The numbers of an answer, in memory of any size: one past the room is dropped. The memory is lent, and no part of an answer: copied at
+// each step, it made program replay take nearly three times as many instructions.
 #[derive(Drop)]
 pub struct Answer<'a> {
-    room: &'a mut [usize; ROOM],
+    room: &'a mut [usize],
     count: usize,
-    ghost fits: { count ≤ 2049 },
+    ghost fits: { count ≤ length room.now },
 }
 
 impl<'a> Answer<'a> {
     // An answer of no numbers.
-    pub fn new(room: &'a mut [usize; ROOM]) -> Answer<'a> {
+    pub fn new(room: &'a mut [usize]) -> Answer<'a> {
         Answer { room, count: 0 }
     }
 
@@ -61,7 +58,7 @@ impl<'a> Answer<'a> {
 
     // Puts a number behind the others.
     pub fn put(&mut self, number: usize) {
-        if self.count < ROOM {
+        if self.count < self.room.len() {
             self.room[self.count] = number;
             self.count += 1;
         }

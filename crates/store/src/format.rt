@@ -47,7 +47,7 @@ fn kind_of(kind: u8) -> Kind
 }
 
 // What may follow a record of this kind; `to` is an edit's second number. What stays is built anew, field by field: handed on whole, the
-// compiler carries its padding along, and the check of a whole dump takes 24 per cent more instructions.
+// compiler carries its padding along, and the check of a whole dump takes 15 per cent more instructions.
 fn after(follow: Follow, kind: u8, to: usize) -> Follow
     ensures { result ≡ follows_by follow kind to }
 {

@@ -1,8 +1,8 @@
 // What the calls answer to a store, compared with what document 02 says.
 use chain::Description;
+use compare::Numbered;
 use equality::padded::padded_words;
 use equality::words::same_words;
-use refusal::Refusal;
 
 // The check of this store gives so many dumps.
 pub fn check_gives(store: &[u8], count: usize) -> bool {
@@ -10,8 +10,8 @@ pub fn check_gives(store: &[u8], count: usize) -> bool {
 }
 
 // The check refuses this store so.
-pub fn check_refuses(store: &[u8], refusal: Refusal) -> bool {
-    store::check(store) == Err(refusal.into())
+pub fn check_refuses(store: &[u8], refusal: impl Numbered) -> bool {
+    compare::refuses(&store::check(store), refusal.number(), 0)
 }
 
 // The dump of this number is restored to this message, and all words lent past it are zero.
@@ -30,28 +30,29 @@ pub fn refuses_in(
     number: usize,
     words: &mut [u32],
     before: &[u32],
-    refusal: Refusal,
+    refusal: impl Numbered,
 ) -> bool {
-    restore::restore(store, number, words) == Err(refusal.into()) && same_words(words, before)
+    let restored = restore::restore(store, number, words);
+    compare::refuses(&restored, refusal.number(), 0) && same_words(words, before)
 }
 
 // The same, with eight words lent.
-pub fn restore_refuses(store: &[u8], number: usize, refusal: Refusal) -> bool {
+pub fn restore_refuses(store: &[u8], number: usize, refusal: impl Numbered) -> bool {
     refuses_in(store, number, &mut [9; 8], &[9; 8], refusal)
 }
 
 // Describing the dump of this number is refused so.
-pub fn describe_refuses(store: &[u8], number: usize, refusal: Refusal) -> bool {
-    chain::describe(store, number) == Err(refusal.into())
+pub fn describe_refuses(store: &[u8], number: usize, refusal: impl Numbered) -> bool {
+    compare::refuses(&chain::describe(store, number), refusal.number(), 0)
 }
 
 // The dump of this number is neither restored nor described, both for this cause.
-pub fn refuses(store: &[u8], number: usize, refusal: Refusal) -> bool {
+pub fn refuses(store: &[u8], number: usize, refusal: impl Numbered) -> bool {
     restore_refuses(store, number, refusal) && describe_refuses(store, number, refusal)
 }
 
 // The store is refused so by all three calls, whatever dump is asked for.
-pub fn is_unsound(store: &[u8], refusal: Refusal) -> bool {
+pub fn is_unsound(store: &[u8], refusal: impl Numbered) -> bool {
     check_refuses(store, refusal) && refuses(store, 1, refusal) && refuses(store, 65536, refusal)
 }
 

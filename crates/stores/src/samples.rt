@@ -28,26 +28,20 @@ pub enum Answer<'a> {
     NotDescribed(usize, Refusal),
 }
 
+// What a call answers that is lent so many words, all nines; false where no sample lends so many.
+fn lends<F: FnOnce(&mut [u32]) -> bool>(lent: usize, call: F) -> bool
+    requires { F.IsAlwaysCallable call }
+{
+    match [9; LENT].get_mut(..lent) {
+        Some(words) => call(words),
+        None => false,
+    }
+}
+
 // What calls answer to a store, or do to it.
 pub trait Given {
     // The calls answer so to this store.
     fn is_given(&self, store: &[u8]) -> bool;
-}
-
-// The dump of this number is restored to this message, with so many words lent.
-fn restores_lent(store: &[u8], lent: usize, number: usize, message: &[u32]) -> bool {
-    match [9; LENT].get_mut(..lent) {
-        Some(words) => answers::restores_in(store, number, words, message),
-        None => false,
-    }
-}
-
-// Restoring the dump of this number is refused so, with so many words lent, and leaves them.
-fn refuses_lent(store: &[u8], lent: usize, number: usize, refusal: Refusal) -> bool {
-    match [9; LENT].get_mut(..lent) {
-        Some(words) => answers::refuses_in(store, number, words, &[9; LENT][..lent], refusal),
-        None => false,
-    }
 }
 
 impl<'a> Given for Answer<'a> {
@@ -56,13 +50,16 @@ impl<'a> Given for Answer<'a> {
             Answer::Dumps(count) => answers::check_gives(store, count),
             Answer::Unsound(refusal) => answers::is_unsound(store, refusal),
             Answer::Message(number, message) => answers::restores(store, number, message),
-            Answer::MessageIn(lent, number, message) => {
-                restores_lent(store, lent, number, message)
-            }
+            Answer::MessageIn(lent, number, message) => lends(lent, |words| {
+                answers::restores_in(store, number, words, message)
+            }),
             Answer::Refused(number, refusal) => answers::refuses(store, number, refusal),
-            Answer::RefusedIn(lent, number, refusal) => {
-                refuses_lent(store, lent, number, refusal)
-            }
+            Answer::RefusedIn(lent, number, refusal) => lends(lent, |before| {
+                lends(
+                    lent,
+                    |words| answers::refuses_in(store, number, words, before, refusal),
+                )
+            }),
             Answer::Described(number, description) => {
                 answers::describes(store, number, description)
             }

@@ -25,13 +25,12 @@ fn replay_line(rt: &impl Print, line: &[u8], tally: &mut Tally) -> io::Result<()
 fn replay_lines(rt: &impl Print, text: &[u8], tally: &mut Tally) -> io::Result<usize>
     ensures { IfOk result (λ place. place ≤ length text.now) }
 {
-    let Some(end) = text.iter().rposition(|byte| *byte == b'\n') else {
-        return Ok(0);
-    };
-    for line in text[..end].split(|byte| *byte == b'\n') {
-        replay_line(rt, line, tally)?;
+    let mut from = 0;
+    while let Some(size) = text[from..].iter().position(|byte| *byte == b'\n') {
+        replay_line(rt, &text[from..from + size], tally)?;
+        from += size + 1;
     }
-    Ok(end + 1)
+    Ok(from)
 }
 
 // Replays standard input; answers how many bytes stand behind its last whole line. Where a line without an end fills the buffer, nothing

@@ -2,7 +2,7 @@
 // Numbers are upper-case hex, those of a list one space apart; an empty field is an empty list.
 #![tactic(auto)]
 
-ghost use Rattle.std.specs.Prelude.{◌≡◌, ◌≤◌, ◌<◌, suc, length, IfSome};
+ghost use Rattle.std.specs.Prelude.{◌≤◌, ◌<◌, length, IfSome};
 ghost use Rattle.recorded_lines.specs.Fits.{RecordFits};
 
 // The most words of a record.

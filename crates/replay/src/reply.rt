@@ -40,7 +40,7 @@ impl TryFrom<usize> for Call {
     }
 }
 
-// Puts what ours answers to a record of a kind, and says which call it is of; none where it is no record, and nothing then counts.
+// Puts what ours answers to a record of a kind, and says which call it is of; none where it is no record, whatever was put then.
 pub(crate) fn reply(
     kind: usize,
     words: &mut [u32],

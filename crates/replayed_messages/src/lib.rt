@@ -53,7 +53,7 @@ impl TryFrom<usize> for Kind {
 }
 
 // Puts what ours answers to a record of a message in the first `length` words, or of a byte stream. The kind is any number: NoRecord where
-// none of these calls has it, or not with so many numbers. A refusal of a call that only reads is the caller's to put.
+// none of these calls has it, or takes such words and numbers. Where the answer is a refusal and no more, the caller puts it.
 pub fn reply(
     kind: usize,
     words: &mut [u32],

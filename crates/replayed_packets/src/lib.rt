@@ -56,7 +56,7 @@ impl TryFrom<usize> for Kind {
 }
 
 // Puts what ours answers to a record of a word field or of a single packet. The kind is any number: NoRecord where none of these calls has
-// it, or not with so many numbers. A refusal of a call that only reads is the caller's to put.
+// it, or takes such words and numbers. Where the answer is a refusal and no more, the caller puts it.
 pub fn reply(
     kind: usize,
     words: &mut [u32],

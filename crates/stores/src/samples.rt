@@ -5,6 +5,9 @@ use compare::report;
 use refusal::Refusal;
 use std::io;
 
+// The most words that nearly all samples lend.
+const FEW: usize = 8;
+
 // The most words that a sample lends: one more than may be lent.
 const LENT: usize = 16385;
 
@@ -32,6 +35,9 @@ pub enum Answer<'a> {
 fn lends<F: FnOnce(&mut [u32]) -> bool>(lent: usize, call: F) -> bool
     requires { F.IsAlwaysCallable call }
 {
+    if let Some(words) = [9; FEW].get_mut(..lent) {
+        return call(words);
+    }
     match [9; LENT].get_mut(..lent) {
         Some(words) => call(words),
         None => false,
